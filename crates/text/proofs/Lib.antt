@@ -1,0 +1,3 @@
+pub mod Pasts
+pub mod Grows
+pub mod Steps

@@ -1,0 +1,4 @@
+pub mod Octets
+pub mod Faults
+pub mod Tokens
+pub mod Ahead
