@@ -6,7 +6,7 @@ use lib.Dec.{leb, eqb}
 use lib.ListN.{drop}
 use Rattle.std.specs.shelf.Lists.{leading}
 use Rattle.text.specs.declared.octets.Class.{Class}
-use Rattle.text.specs.declared.octets.Class.the-variants.{Blank, Inner, Allowed}
+use Rattle.text.specs.declared.octets.Class.the-variants.{Blank, Inner, Allowed, Plain, Name}
 
 -- LF, CR and space
 abbrev pub blank : ℕ → Bool
@@ -29,10 +29,20 @@ allowed b = letter b || (digit b || (eqb b 95 || (eqb b 40 || eqb b 41)))
 abbrev pub inner : ℕ → Bool
 inner b = not (blank b || (eqb b 42 || eqb b 44))
 
+-- a letter or a digit: what a joint's name may have
+abbrev pub plain : ℕ → Bool
+plain b = letter b || digit b
+
+-- what any other name may have
+abbrev pub naming : ℕ → Bool
+naming b = letter b || (digit b || eqb b 95)
+
 abbrev pub has : Class → ℕ → Bool
 has Blank b = blank b
 has Inner b = inner b
 has Allowed b = allowed b
+has Plain b = plain b
+has Name b = naming b
 
 -- the first place from `at` on whose octet is not of the class, or the end
 abbrev pub past : Class → List ℕ → ℕ → ℕ

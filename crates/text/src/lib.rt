@@ -5,6 +5,7 @@ mod reader;
 mod tokens;
 
 pub use faults::WordFault;
+pub use octets::Class;
 pub use reader::Reader;
 pub use tokens::Token;
 pub use tokens::Word;

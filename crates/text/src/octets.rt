@@ -2,6 +2,7 @@
 ghost use mathlib.Core.Path.{_≡_};
 ghost use Prim.Native.Nat.{_≤_};
 ghost use lib.ListN.{length};
+ghost use Rattle.std.specs.shelf.Lists.{leading};
 ghost use Rattle.text.specs.Octets.{has, past};
 
 #[derive(Clone, Copy)]
@@ -12,6 +13,10 @@ pub enum Class {
     Inner,
     // a letter, a digit, `_`, `(` or `)`
     Allowed,
+    // a letter or a digit
+    Plain,
+    // a letter, a digit or `_`
+    Name,
 }
 
 impl Class {
@@ -23,7 +28,17 @@ impl Class {
             Class::Inner => !matches!(b, b'\n' | b'\r' | b' ' | b'*' | b','),
             Class::Allowed =>
                 matches!(b, b'a'..=b'z' | b'A'..=b'Z' | b'0'..=b'9' | b'_' | b'(' | b')'),
+            Class::Plain => matches!(b, b'a'..=b'z' | b'A'..=b'Z' | b'0'..=b'9'),
+            Class::Name => matches!(b, b'a'..=b'z' | b'A'..=b'Z' | b'0'..=b'9' | b'_'),
         }
+    }
+
+    // How many octets at the front are of the class.
+    pub fn run(self, octets: &[u8]) -> usize
+        ensures value { λ r. ⌜ r ≡ leading (has self) (now (octets .entry)) ⌝ }
+        ensures bound { λ r. ⌜ r ≤ length (now (octets .entry)) ⌝ }
+    {
+        run_end(octets, 0, self)
     }
 }
 
