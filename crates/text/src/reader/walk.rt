@@ -2,7 +2,9 @@
 ghost use mathlib.Core.Path.{_≡_};
 ghost use Prim.Native.Nat.{_≤_};
 ghost use lib.ListN.{length};
-ghost use Rattle.text.specs.Tokens.{yielded, next-token, next-place, word-of, word-between};
+ghost use Rattle.std.specs.Options.{mapped};
+ghost use Rattle.text.specs.Out.{word-out, a-peek, a-comma, comma-next};
+ghost use Rattle.text.specs.Tokens.{item, yielded, next-token, next-place, word-of, word-between};
 ghost use Rattle.text.specs.Ahead.{tokens-ahead, tokens-from, follow, text-of, place-of};
 use crate::faults::WordFault;
 use crate::octets::Class;
@@ -39,6 +41,31 @@ impl<'a> Reader<'a> {
         self.step()
     }
 
+    // The next token, which stays to be read.
+    pub fn peek(&self) -> Result<Option<Token<'a>>, WordFault>
+        ensures { λ r. ⌜ word-out (mapped item) r (tokens-ahead (now (self .entry))) ≡ a-peek (tokens-ahead (now (self .entry))) ⌝ }
+    {
+        let mut ahead = Reader {
+            text: self.text,
+            at: self.at,
+        };
+        ahead.next()
+    }
+
+    // Passes over a comma, where one comes next, and says whether one did.
+    pub fn comma(&mut self) -> Result<bool, WordFault>
+        ensures value { λ r. ⌜ word-out (λ b. b) r (tokens-ahead (now (self .exit))) ≡ a-comma (tokens-ahead (now (self .entry))) ⌝ }
+        ensures same { λ r. ⌜ text-of (now (self .exit)) ≡ text-of (now (self .entry)) ⌝ }
+    {
+        let start = self.at;
+        let next = self.next()?;
+        if is_comma(next) {
+            return Ok(true);
+        }
+        self.at = start;
+        Ok(false)
+    }
+
     fn step(&mut self) -> Result<Option<Token<'a>>, WordFault>
         ensures value { λ r. ⌜ yielded r ≡ next-token (text-of (now (self .entry))) (place-of (now (self .entry))) ⌝ }
         ensures place { λ r. ⌜ place-of (now (self .exit)) ≡ next-place (text-of (now (self .entry))) (place-of (now (self .entry))) ⌝ }
@@ -62,6 +89,17 @@ impl<'a> Reader<'a> {
         self.at = end;
         let octets = word(text, start, end)?;
         Ok(Some(Token::Word(Word { octets, at: start })))
+    }
+}
+
+fn is_comma(token: Option<Token>) -> bool
+    ensures { λ r. ⌜ r ≡ comma-next (token .entry) ⌝ }
+{
+    match token {
+        Some(Token::Comma(_)) => true,
+        Some(Token::Star(_)) => false,
+        Some(Token::Word(_)) => false,
+        None => false,
     }
 }
 
