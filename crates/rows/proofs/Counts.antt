@@ -15,16 +15,14 @@ module _ {X Y : Type 0} (f : X → Y) (p : Y → Bool) (xs : List X) where
   abbrev pub counted : ℕ → ℕ
   counted i = countBy p (map f (take i xs))
 
-  module _ (i : ℕ) (x : X) (within : i < length xs) (is : x ≡ getD xs i x) where
-    step : counted (i + 1) ≡ counted i + cond (p (f x)) 1 0
-    step =
-        ap (countBy p) (map-more f xs i x within ∙ ap (λ y. map f (take i xs) ++ f y ∷ []) (sym is))
-        ∙ sumBy-push (λ y. cond (p y) 1 0) (map f (take i xs)) (f x)
+  module _ (i : ℕ) (d : X) (within : i < length xs) where
+    step : counted (i + 1) ≡ counted i + cond (p (f (getD xs i d))) 1 0
+    step = ap (countBy p) (map-more f xs i d within) ∙ sumBy-push (λ y. cond (p y) 1 0) (map f (take i xs)) (f (getD xs i d))
 
-    pub count-yes : (n : ℕ) → n ≡ counted i → p (f x) ≡ true → n + 1 ≡ counted (i + 1)
+    pub count-yes : (n : ℕ) → n ≡ counted i → p (f (getD xs i d)) ≡ true → n + 1 ≡ counted (i + 1)
     count-yes n inv e = ap (λ m. m + 1) inv ∙ sym (step ∙ ap (λ b. counted i + cond b 1 0) e)
 
-    pub count-no : (n : ℕ) → n ≡ counted i → p (f x) ≡ false → n ≡ counted (i + 1)
+    pub count-no : (n : ℕ) → n ≡ counted i → p (f (getD xs i d)) ≡ false → n ≡ counted (i + 1)
     count-no n inv e = let s = step ∙ ap (λ b. counted i + cond b 1 0) e in omega (arith, inv, s)
 
   pub count-all : (i n : ℕ) → length xs ≤ i → n ≡ counted i → n ≡ countBy p (map f xs)

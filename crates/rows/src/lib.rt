@@ -4,10 +4,10 @@ mod filters;
 mod rows;
 
 pub use faults::ReadingFault;
-pub use faults::RowFault;
 pub use faults::ReadingFaultFromAlloc;
 pub use faults::ReadingFaultFromRefused;
 pub use faults::ReadingFaultFromRow;
+pub use faults::RowFault;
 pub use faults::RowFaultFromWord;
 pub use filters::Kind;
 pub use filters::crowded;
