@@ -47,10 +47,18 @@ a-far ts =
     cond (sameBytes (w .1) (codes "OUT")) (got far-outside us)
     (cond (sameBytes (w .1) (codes "END")) (got far-buffer us) (as-far w (segment-of w) us)))
 
--- a star, after which us is ahead, or the end of the text
-abbrev pub a-row-begins : Ahead → Ahead → Out Bool
-a-row-begins (ends n) us = got false us
-a-row-begins (spoilt n i) us = bad n i
-a-row-begins (token (star i) ts) us = got true ts
-a-row-begins (token (comma i) ts) us = bad 3 i
-a-row-begins (token (word i w) ts) us = bad 3 i
+-- the star of a row
+abbrev pub a-star : Ahead → Out ℕ
+a-star (ends n) = bad 3 n
+a-star (spoilt n i) = bad n i
+a-star (token (star i) ts) = got i ts
+a-star (token (comma i) ts) = bad 3 i
+a-star (token (word i w) ts) = bad 3 i
+
+-- the star of a row, or nothing at the end of the text
+abbrev pub a-star-or-end : Ahead → Out (Option ℕ)
+a-star-or-end (ends n) = got None (ends n)
+a-star-or-end (spoilt n i) = bad n i
+a-star-or-end (token (star i) ts) = got (Some i) ts
+a-star-or-end (token (comma i) ts) = bad 3 i
+a-star-or-end (token (word i w) ts) = bad 3 i

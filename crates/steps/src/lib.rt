@@ -8,5 +8,6 @@ pub use words::joint;
 pub use words::keyword;
 pub use words::next_word;
 pub use words::point;
-pub use words::row_begins;
+pub use words::row_star;
 pub use words::segment;
+pub use words::star_or_end;

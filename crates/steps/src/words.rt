@@ -4,7 +4,7 @@ ghost use Rattle.text.specs.Ahead.{tokens-ahead};
 ghost use Rattle.forms.specs.Things.{spelled, spot};
 ghost use Rattle.rows.specs.Faults.{row-out};
 ghost use Rattle.rows.specs.Rows.{placed-far};
-ghost use Rattle.steps.specs.Words.{a-word, a-keyword, a-segment, a-joint, a-point, a-far, a-row-begins};
+ghost use Rattle.steps.specs.Words.{a-word, a-keyword, a-segment, a-joint, a-point, a-far, a-star, a-star-or-end};
 use forms::Name;
 use forms::is_text;
 use forms::joint_of;
@@ -91,14 +91,24 @@ pub fn far<'a>(reader: &mut Reader<'a>) -> Result<Far<'a>, RowFault>
     }
 }
 
-// Passes over the star of the next row; false at the end of the text.
-pub fn row_begins<'a>(reader: &mut Reader<'a>) -> Result<bool, RowFault>
-    ensures { λ r. ⌜ row-out (λ b. b) r (tokens-ahead (now (reader .exit))) ≡ a-row-begins (tokens-ahead (now (reader .entry))) (tokens-ahead (now (reader .exit))) ⌝ }
+// The star of a row.
+pub fn row_star<'a>(reader: &mut Reader<'a>) -> Result<usize, RowFault>
+    ensures { λ r. ⌜ row-out (λ i. i) r (tokens-ahead (now (reader .exit))) ≡ a-star (tokens-ahead (now (reader .entry))) ⌝ }
 {
     match reader.next()? {
-        Some(Token::Star(_)) => Ok(true),
+        Some(Token::Star(at)) => Ok(at),
         Some(Token::Word(w)) => Err(RowFault::Form(w.at)),
         Some(Token::Comma(at)) => Err(RowFault::Form(at)),
-        None => Ok(false),
+        None => Err(RowFault::Form(reader.end())),
+    }
+}
+
+// The star of a row, or nothing at the end of the text.
+pub fn star_or_end<'a>(reader: &mut Reader<'a>) -> Result<Option<usize>, RowFault>
+    ensures { λ r. ⌜ row-out (λ o. o) r (tokens-ahead (now (reader .exit))) ≡ a-star-or-end (tokens-ahead (now (reader .entry))) ⌝ }
+{
+    match reader.peek()? {
+        Some(_) => Ok(Some(row_star(reader)?)),
+        None => Ok(None),
     }
 }
