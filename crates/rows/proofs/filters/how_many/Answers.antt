@@ -2,7 +2,7 @@ use mathlib.Core.Path.{sym, ap, _∙_}
 use native.Mathlib.Omega.{arith}
 use Rattle.rows.specs.Rows.{placed-row}
 use Rattle.rows.specs.Filters.{filtering, passes, how-many}
-use Rattle.rows.proofs.Counts.{count-yes, count-no, count-all}
+use Rattle.firsts.proofs.Counts.{count-yes, count-no, count-all}
 use Rattle.rows.proofs.filters.how_many.Needs as need
 use Rattle.rows.proofs.filters.how_many.Needs.{then-passes, else-passes}
 

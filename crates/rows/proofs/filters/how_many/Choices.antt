@@ -2,7 +2,7 @@ use Prim.Native.Nat.{_≤_}
 use mathlib.Core.Path.{_≡_}
 use Rattle.rows.specs.Rows.{placed-row}
 use Rattle.rows.specs.Filters.{filtering, passes}
-use Rattle.rows.proofs.Counts.{counted}
+use Rattle.firsts.proofs.Counts.{counted}
 use Rattle.rows.proofs.filters.how_many.Given as given
 
 abbrev pub Inv-loop-row : given.InvT-loop-row

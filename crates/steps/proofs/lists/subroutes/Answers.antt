@@ -1,7 +1,7 @@
 use mathlib.Core.Path.{sym, ap, _∙_}
 use native.Mathlib.Omega.{arith}
 use Rattle.rows.specs.Rows.{placed-pair}
-use Rattle.rows.proofs.Counts.{count-yes, count-no, count-all}
+use Rattle.firsts.proofs.Counts.{count-yes, count-no, count-all}
 use Rattle.steps.specs.Pairs.{runs, subroutes}
 use Rattle.steps.proofs.lists.subroutes.Needs as need
 use Rattle.steps.proofs.lists.subroutes.Needs.{then-is-subroute, else-is-subroute}

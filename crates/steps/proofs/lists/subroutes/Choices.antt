@@ -1,7 +1,7 @@
 use Prim.Native.Nat.{_≤_}
 use mathlib.Core.Path.{_≡_}
 use Rattle.rows.specs.Rows.{placed-pair}
-use Rattle.rows.proofs.Counts.{counted}
+use Rattle.firsts.proofs.Counts.{counted}
 use Rattle.steps.specs.Pairs.{runs}
 use Rattle.steps.proofs.lists.subroutes.Given as given
 
