@@ -78,7 +78,7 @@ impl<'a> Row<'a> {
     }
 
     // The name that the row declares or is about; a way's and a signal's and a release's is its first joint.
-    fn first(&self) -> &'a [u8]
+    pub fn first(&self) -> &'a [u8]
         ensures { λ r. ⌜ now r ≡ first-of (placed-row (now (self .entry))) ⌝ }
     {
         match self {
@@ -96,7 +96,7 @@ impl<'a> Row<'a> {
     }
 
     // The second name that tells such rows apart, or none.
-    fn second(&self) -> &'a [u8]
+    pub fn second(&self) -> &'a [u8]
         ensures { λ r. ⌜ now r ≡ second-of (placed-row (now (self .entry))) ⌝ }
     {
         match self {
@@ -117,7 +117,7 @@ impl<'a> Row<'a> {
         }
     }
 
-    fn is_of(&self, kind: Kind) -> bool
+    pub fn is_of(&self, kind: Kind) -> bool
         ensures { λ r. ⌜ r ≡ of-head kind (placed-row (now (self .entry))) ⌝ }
     {
         self.kind().number() == kind.number()
