@@ -4,3 +4,4 @@ pub mod Elements
 pub mod Firsts
 pub mod Counts
 pub mod Picks
+pub mod Somes

@@ -35,11 +35,7 @@ fn key_of<'a>(row: &Row<'a>, kind: Kind) -> Option<Key<'a>>
 }
 
 // The names of the rows of a kind, in order.
-pub fn keys_of<'a>(
-    rows: &[Row<'a>],
-    kind: Kind,
-    heap: Global,
-) -> Result<Vec<Key<'a>>, AllocError>
+pub fn keys_of<'a>(rows: &[Row<'a>], kind: Kind, heap: Global) -> Result<Vec<Key<'a>>, AllocError>
     ensures { λ r. ⌜ made r (λ v. map names (vec-items v) ≡ keys-of kind (map placed-row (now (rows .entry)))) ⌝ }
 {
     let mut keys = Vec::new(heap);
@@ -59,7 +55,8 @@ fn is_key<'a>(key: Key<'a>, first: &[u8], second: &[u8]) -> bool
 
 // The place of the first key with these names, or the number of keys where none has them.
 pub fn place<'a>(keys: &[Key<'a>], first: &[u8], second: &[u8]) -> usize
-    ensures { λ r. ⌜ r ≡ place (map names (now (keys .entry))) (now (first .entry)) (now (second .entry)) ⌝ }
+    ensures value { λ r. ⌜ r ≡ place (map names (now (keys .entry))) (now (first .entry)) (now (second .entry)) ⌝ }
+    ensures bound { λ r. ⌜ r ≤ length (now (keys .entry)) ⌝ }
 {
     for (i, key) in keys.iter().enumerate() {
         if is_key(*key, first, second) {

@@ -16,15 +16,15 @@ loop-row-holds c = ap (map names) (c .new-keys .ensures .items)
 pub loop-row-again : need.loop-row-again
 loop-row-again c =
     let at = ap (λ r. key-in (c .args .kind) (placed-row r)) (sym (c .row-item .is)) in
-    elim (c .match-key-of .came)
-    [ in-Some·in-Continue-push w ↦
-        ap (λ v. map names (vec-items v)) (w .keys-is)
-        ∙ ap (map names) (w .in-Continue-push .ensures tt .items)
-        ∙ map-push names _ _
-        ∙ pick-yes _ _ _ _ _ (c .loop-row-test .taken) _ _ (c .loop-row .inv) (at ∙ sym (w .in-Some .ensures tt))
-    | in-rest w ↦
-        ap (λ v. map names (vec-items v)) (w .keys-is)
-        ∙ pick-no _ _ _ _ _ (c .loop-row-test .taken) _ (c .loop-row .inv) (at ∙ sym (w .in-rest .ensures tt))
+    elim (c .match-key-of .came) [
+      | in-Some·in-Continue-push w ↦
+          ap (λ v. map names (vec-items v)) (w .keys-is)
+          ∙ ap (map names) (w .in-Continue-push .ensures tt .items)
+          ∙ map-push names _ _
+          ∙ pick-yes _ _ _ _ _ (c .loop-row-test .taken) _ _ (c .loop-row .inv) (at ∙ sym (w .in-Some .ensures tt))
+      | in-rest w ↦
+          ap (λ v. map names (vec-items v)) (w .keys-is)
+          ∙ pick-no _ _ _ _ _ (c .loop-row-test .taken) _ (c .loop-row .inv) (at ∙ sym (w .in-rest .ensures tt))
     ]
 
 pub returns : need.returns

@@ -9,10 +9,17 @@ loop-i-holds c = omega arith
 
 pub returns-then-is-key : need.returns-then-is-key
 returns-then-is-key c =
-    place-here names _ _ _ _ _ (c .loop-i-test .taken) (c .loop-i .inv) (sym (c .if-is-key .ensures tt))
+    record {
+      value = place-here names _ _ _ _ _ (c .loop-i-test .taken) (c .loop-i .inv) (sym (c .if-is-key .ensures tt));
+      bound = omega arith;
+    }
 
 pub loop-i-again : need.loop-i-again
 loop-i-again c = place-on names _ _ _ _ _ (c .loop-i-test .taken) (c .loop-i .inv) (sym (c .if-is-key .ensures tt))
 
 pub returns : need.returns
-returns c = place-none names _ _ _ _ (c .loop-i-test .left) (c .loop-i .kept .i-end) (c .loop-i .inv)
+returns c =
+    record {
+      value = place-none names _ _ _ _ (c .loop-i-test .left) (c .loop-i .kept .i-end) (c .loop-i .inv);
+      bound = omega arith;
+    }
