@@ -1,5 +1,5 @@
 -- The rows of a text. N is what stands for a name: its octets, or these with the offset of its word.
-use mathlib.Core.List.{List, map}
+use mathlib.Core.List.{List, [], map}
 use Prim.Native.Nat.{ℕ}
 use Rattle.std.specs.Of.Vec.{vec-items}
 use Rattle.std.specs.declared.vec.Vec.{Vec}
@@ -65,3 +65,16 @@ placed-row (code.Activation a) = activation-row (spot (a .route)) (map placed-pa
 placed-row (code.Move m) = move-row (spot (m .point)) (m .position) (map placed-pair (vec-items (m .tests)))
 placed-row (code.Release u) = release-row (spot (u .from)) (spot (u .to)) (map placed-pair (vec-items (u .tests)))
 placed-row (code.Zone z) = zone-row (spot (z .zone)) (map placed-pair (vec-items (z .tests)))
+
+-- what a row tests; of a way, its settings
+abbrev pub tests-of : {N : Type 0} → Row N → List (Pair N)
+tests-of (segment-row x) = []
+tests-of (joint-row x s f) = []
+tests-of (point-row x s) = []
+tests-of (way-row s a b ps) = ps
+tests-of (signal-row j s) = []
+tests-of (request-row x ts us) = ts
+tests-of (activation-row x ts) = ts
+tests-of (move-row x p ts) = ts
+tests-of (release-row a b ts) = ts
+tests-of (zone-row x ts) = ts

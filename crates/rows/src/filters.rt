@@ -5,8 +5,9 @@ ghost use Prim.Native.Nat.{_≤_};
 ghost use lib.ListN.{length};
 ghost use lib.Dec.{leb, ltb};
 ghost use Rattle.std.specs.shelf.Lists.{countBy};
-ghost use Rattle.rows.specs.Rows.{placed-row};
-ghost use Rattle.rows.specs.Filters.{kind-number, filtering, head-of, first-of, second-of, home-of, of-head, passes, how-many, full, known, crowded};
+ghost use Rattle.rows.specs.Rows.{placed-pair, placed-row, tests-of};
+ghost use Rattle.rows.specs.Filters.{kind-number, filtering, head-of, first-of, second-of, home-of, of-head, named, passes, how-many, full, known, crowded};
+use crate::rows::Pair;
 use crate::rows::Row;
 use forms::is_text;
 use station::Position;
@@ -123,14 +124,34 @@ impl<'a> Row<'a> {
         self.kind().number() == kind.number()
     }
 
+    // Whether the row is of the kind and has these names.
+    pub fn is_named(&self, kind: Kind, first: &[u8], second: &[u8]) -> bool
+        ensures { λ r. ⌜ r ≡ passes (named kind (now (first .entry)) (now (second .entry))) (placed-row (now (self .entry))) ⌝ }
+    {
+        self.is_of(kind) && is_text(self.first(), first) && is_text(self.second(), second)
+    }
+
+    // The row's tests, or a way's settings.
+    pub fn tests(&self) -> &[Pair<'a>]
+        ensures { λ r. ⌜ map placed-pair (now r) ≡ tests-of (placed-row (now (self .entry))) ⌝ }
+    {
+        match self {
+            Row::Way(w) => w.settings.as_slice(),
+            Row::Request(q) => q.tests.as_slice(),
+            Row::Activation(a) => a.tests.as_slice(),
+            Row::Move(m) => m.tests.as_slice(),
+            Row::Release(u) => u.tests.as_slice(),
+            Row::Zone(z) => z.tests.as_slice(),
+            _ => &[],
+        }
+    }
+
     fn passes(&self, filter: Filter<'a>) -> bool
         ensures { λ r. ⌜ r ≡ passes (filtering (filter .entry)) (placed-row (now (self .entry))) ⌝ }
     {
         match filter {
             Filter::OfKind(kind) => self.is_of(kind),
-            Filter::Named(kind, a, b) => self.is_of(kind)
-                && is_text(self.first(), a)
-                && is_text(self.second(), b),
+            Filter::Named(kind, a, b) => self.is_named(kind, a, b),
             Filter::AtHome(segment) => self.is_of(Kind::Point) && is_text(self.home(), segment),
         }
     }
