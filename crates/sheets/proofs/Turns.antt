@@ -8,7 +8,8 @@ use Rattle.std.specs.declared.option.Option.{Option}
 use Rattle.std.specs.declared.option.Option.the-variants.{Some, None}
 use lib.ListN.{length}
 use Rattle.std.proofs.shelf.Tests.{cond-true, cond-false, lt-ltb, le-ltb}
-use Rattle.text.specs.Ahead.{Ahead, tokens-from}
+use Rattle.text.specs.declared.reader.Reader.{Reader}
+use Rattle.text.specs.Ahead.{Ahead, tokens-from, tokens-ahead, text-of, place-of}
 use Rattle.text.specs.Out.{Out, got, bad, bind}
 use Rattle.forms.specs.Things.{Spot}
 use Rattle.rows.specs.Faults.{Refuses}
@@ -59,10 +60,12 @@ row-added part rows ts us r more e f = ap (λ m. got (true, m) us) f ∙ ap (λ 
 
 module _ (t : List ℕ) where
   -- reading begins with no row, at the text's first octet
-  pub begun : (v : Vec row-type.Row Global) (ts : Ahead) → vec-items v ≡ [] → ts ≡ tokens-from t 0 → section (length t) (length t) Layout (rows-of v) ts ≡ section (length t) (length t) Layout [] (tokens-from t 0)
-  begun v ts e f =
-      ap (λ xs. section (length t) (length t) Layout (map placed-row xs) ts) e
-      ∙ ap (λ us. section (length t) (length t) Layout [] us) f
+  pub begun : (v : Vec row-type.Row Global) (r : Reader) → vec-items v ≡ [] → text-of r ≡ t → place-of r ≡ 0 → section (length t) (length t) Layout (rows-of v) (tokens-ahead r) ≡ section (length t) (length t) Layout [] (tokens-from t 0)
+  unfolding tokens-ahead
+  begun v r e f g =
+      ap (λ xs. section (length t) (length t) Layout (map placed-row xs) (tokens-from (text-of r) (place-of r))) e
+      ∙ ap (λ u. section (length t) (length t) Layout [] (tokens-from u (place-of r))) f
+      ∙ ap (λ i. section (length t) (length t) Layout [] (tokens-from t i)) g
 
   pub too-long : 32768 < length t → refused 1 0 ≡ sheet t
   unfolding sheet

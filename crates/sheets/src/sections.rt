@@ -60,10 +60,10 @@ fn data_turn<'a>(
     let Some(_) = star_or_end(reader)? else {
         return Ok(None);
     };
-    let w = next_word(reader)?;
-    match head_of(w) {
-        Some(head) => Ok(Some(data_row(reader, heap, rows, w.at, head)?)),
-        None => Err(ReadingFault::Row(RowFault::Form(w.at))),
+    let word = next_word(reader)?;
+    match head_of(word) {
+        Some(head) => Ok(Some(data_row(reader, heap, rows, word.at, head)?)),
+        None => Err(ReadingFault::Row(RowFault::Form(word.at))),
     }
 }
 

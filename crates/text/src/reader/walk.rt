@@ -5,7 +5,7 @@ ghost use lib.ListN.{length};
 ghost use Rattle.std.specs.Options.{mapped};
 ghost use Rattle.text.specs.Out.{word-out, a-peek, a-comma, comma-next};
 ghost use Rattle.text.specs.Tokens.{item, yielded, next-token, next-place, word-of, word-between};
-ghost use Rattle.text.specs.Ahead.{tokens-ahead, tokens-from, follow, text-of, place-of};
+ghost use Rattle.text.specs.Ahead.{tokens-ahead, follow, text-of, place-of};
 use crate::faults::WordFault;
 use crate::octets::Class;
 use crate::octets::run_end;
@@ -19,7 +19,8 @@ const LONGEST: usize = 16;
 impl<'a> Reader<'a> {
     // A reader at the text's beginning.
     pub fn new(text: &'a [u8]) -> Reader<'a>
-        ensures { λ r. ⌜ tokens-ahead r ≡ tokens-from (now (text .entry)) 0 ⌝ ∗ ⌜ text-of r ≡ now (text .entry) ⌝ ∗ ⌜ place-of r ≡ 0 ⌝ }
+        ensures text { λ r. ⌜ text-of r ≡ now (text .entry) ⌝ }
+        ensures place { λ r. ⌜ place-of r ≡ 0 ⌝ }
     {
         Reader { text, at: 0 }
     }
@@ -108,7 +109,8 @@ fn word(text: &[u8], start: usize, end: usize) -> Result<&[u8], WordFault>
     requires { ⌜ start ≤ end ⌝ ∗ ⌜ end ≤ length (now text) ⌝ }
     ensures { λ r. ⌜ word-of r ≡ word-between (now (text .entry)) start end ⌝ }
 {
-    if run_end(text, start, Class::Allowed) < end {
+    let clean = run_end(text, start, Class::Allowed);
+    if clean < end {
         return Err(WordFault::Octet(start));
     }
     if end - start > LONGEST {
