@@ -1,0 +1,4 @@
+pub mod Steps
+pub mod Below
+pub mod Elements
+pub mod Firsts

@@ -1,0 +1,16 @@
+use mathlib.Core.Path.{sym}
+use Rattle.firsts.specs.Claims.{any-below}
+use Rattle.firsts.proofs.Below.{any-none, any-more, any-stop, at-end}
+use Rattle.firsts.proofs.claims.some_below.Needs as need
+
+pub returns-then-holds : need.returns-then-holds
+returns-then-holds g c = sym (any-stop _ _ _ (c .loop-i-test .taken) (sym (c .if-holds .ensures tt)))
+
+pub loop-i-holds : need.loop-i-holds
+loop-i-holds g c = any-none _
+
+pub loop-i-again : need.loop-i-again
+loop-i-again g c = any-more _ _ (c .loop-i .inv) (sym (c .if-holds .ensures tt))
+
+pub returns : need.returns
+returns g c = at-end (any-below _) _ _ _ (c .loop-i .kept .i-end) (c .loop-i-test .left) (c .loop-i .inv)

@@ -1,0 +1,15 @@
+// The first place that has an answer, and whether every place keeps a claim.
+mod claims;
+mod lists;
+mod probes;
+
+pub use claims::Claim;
+pub use claims::every_below;
+pub use claims::first_breach;
+pub use claims::some_below;
+pub use lists::Same;
+pub use lists::every_of;
+pub use lists::has;
+pub use lists::some_of;
+pub use probes::Probe;
+pub use probes::first;

@@ -1,0 +1,27 @@
+// The first answer of a question that is asked at one number after another.
+ghost use mathlib.Core.Path.{_≡_};
+ghost use Prim.Native.Nat.{ℕ};
+ghost use Rattle.std.specs.declared.option.Option.{Option as Maybe};
+ghost use Rattle.firsts.specs.Search.{first-below};
+
+// A question that has an answer at some numbers.
+pub trait Probe {
+    type Found;
+
+    ghost at: { Self → ℕ → Maybe Self·Found };
+
+    fn probe(&self, i: usize) -> Option<Self::Found>
+        ensures { λ r. ⌜ r ≡ at (now (self .entry)) i ⌝ };
+}
+
+// The answer at the first number below n that has one.
+pub fn first<P: Probe>(p: &P, n: usize) -> Option<P::Found>
+    ensures { λ r. ⌜ r ≡ first-below (at (now (p .entry))) n ⌝ }
+{
+    for i in 0..n {
+        if let Some(x) = p.probe(i) {
+            return Some(x);
+        }
+    }
+    None
+}
