@@ -1,5 +1,5 @@
 -- Tests of every element and of some element of a list: the steps of a loop, and what they tell.
-use mathlib.Core.Path.{_≡_, refl, sym, ap, _∙_}
+use mathlib.Core.Path.{_≡_, refl, sym, ap, subst, _∙_}
 use mathlib.Core.Bool.{Bool, true, false, _&&_, _||_}
 use mathlib.Core.List.{List, [], _∷_, map}
 use Prim.Native.Nat.{ℕ, _+_, _≤_, _<_}
@@ -8,6 +8,7 @@ use Rattle.std.specs.Orderings.{Decides}
 use Rattle.std.specs.shelf.Lists.{All, At, Has}
 use Rattle.std.proofs.shelf.Lists.{at-drop-more, at-drop-all}
 use Rattle.std.proofs.shelf.Ways.{decides-by-and, decides-by-or, decides-like}
+use Rattle.std.proofs.shelf.Elements.{has-getD}
 use Rattle.firsts.specs.Lists.{all, any}
 
 -- a test of every element tells what its parts tell
@@ -18,6 +19,14 @@ decides-all {X} {p} P each xs = decides-by-and p P (all p) each refl (λ _ _. re
 pub decides-any : {X : Type 0} {p : X → Bool} (P : X → Type 0) → ((x : X) → Decides (p x) (P x)) → (xs : List X) → Decides (any p xs) ((k : ℕ) × (k < length xs) × At P xs k)
 unfolding any
 decides-any {X} {p} P each xs = decides-by-or p P (any p) each refl (λ _ _. refl) xs
+
+-- some element of which P holds
+pub decides-some : {X : Type 0} {p : X → Bool} (P : X → Type 0) (d : X) → ((x : X) → Decides (p x) (P x)) → (xs : List X) → Decides (any p xs) ((x : X) × Has xs x × P x)
+decides-some {X} {p} P d each xs =
+    decides-like (any p xs)
+    (λ (h : (k : ℕ) × (k < length xs) × At P xs k). (getD xs (h .0) d, has-getD xs (h .0) d (h .1), h .2 d))
+    (λ (h : (x : X) × Has xs x × P x). (h .1 .0, h .1 .1, λ e. subst P (sym (h .1 .2 e)) (h .2)))
+    (decides-any P each xs)
 
 -- whether a list has x
 pub decides-has : {X : Type 0} {alike : X → X → Bool} → ((x y : X) → Decides (alike x y) (x ≡ y)) → (xs : List X) (x : X) → Decides (any (alike x) xs) (Has xs x)
