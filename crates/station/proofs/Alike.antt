@@ -27,9 +27,9 @@ one K out a b = decides-like (eqb a b) (λ e. ap K e) (out a b) (decides-eqb a b
 
 -- two pairs, under a constructor
 two : {X Y Z : Type 0} (K : X → Y → Z) {f : X → X → Bool} {g : Y → Y → Bool}
-  → ((a b : X) → Decides (f a b) (a ≡ b)) → ((x y : Y) → Decides (g x y) (x ≡ y))
-  → ((a b : X) (x y : Y) → K a x ≡ K b y → (a ≡ b) × (x ≡ y))
-  → (a b : X) (x y : Y) → Decides (f a b && g x y) (K a x ≡ K b y)
+    → ((a b : X) → Decides (f a b) (a ≡ b)) → ((x y : Y) → Decides (g x y) (x ≡ y))
+    → ((a b : X) (x y : Y) → K a x ≡ K b y → (a ≡ b) × (x ≡ y))
+    → (a b : X) (x y : Y) → Decides (f a b && g x y) (K a x ≡ K b y)
 two {X} {Y} {Z} K {f} {g} first second out a b x y =
     decides-like (f a b && g x y) (λ (p : (a ≡ b) × (x ≡ y)). let p0 = p .0 in let p1 = p .1 in cc) (out a b x y) (decides-and (f a b) (g x y) (first a b) (second x y))
 

@@ -35,8 +35,8 @@ decides-where false y p q = (λ e h. absurd (let z : _≡_ {A = Bool} false true
 pub decides-covers : (s : Station) (z u : ℕ) → Decides (covers s z u) (Covers s z u)
 decides-covers s z u =
     decides-like (covers s z u) (λ p. record { tested = p .0; locked = p .1 }) (λ c. (c .tested, c .locked)) (decides-and _ _
-      (decides-has decides-release (zone-at s z .tests) (release.Free u))
-      (decides-all-below (λ r. Uses s r u → Locks s r z) (λ r. decides-where (uses s r u) (locks s r z) (decides-uses s r u) (decides-locks s r z)) (length (s .routes))))
+    (decides-has decides-release (zone-at s z .tests) (release.Free u))
+    (decides-all-below (λ r. Uses s r u → Locks s r z) (λ r. decides-where (uses s r u) (locks s r z) (decides-uses s r u) (decides-locks s r z)) (length (s .routes))))
 
 pub decides-guards : (s : Station) (u : ℕ) (l : Lock) → Decides (guards s u l) (Guards s u l)
 decides-guards s u (Zone z) = decides-covers s z u
