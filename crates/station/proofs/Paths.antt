@@ -17,10 +17,10 @@ use Rattle.station.specs.declared.tests.Lock.the-variants.{Zone, Subroute}
 use Rattle.station.specs.Station.{Station}
 use Rattle.station.specs.Numbers.{route-at}
 use Rattle.station.specs.Alike.{same-action}
-use Rattle.station.specs.Paths.{before-path, path-of, path, uses, Uses, used, Used, locks, Locks}
+use Rattle.station.specs.Paths.{taken, before, path-of, path, uses, Uses, used, Used, locks, Locks}
 use Rattle.station.proofs.Alike.{decides-action}
 
-step : (u : ℕ) (a : Action) (us : List ℕ) (b : Bool) → b ≡ any (eqb u) us → (same-action (Take (Subroute u)) a || b) ≡ any (eqb u) (before-path a us)
+step : (u : ℕ) (a : Action) (us : List ℕ) (b : Bool) → b ≡ any (eqb u) us → (same-action (Take (Subroute u)) a || b) ≡ any (eqb u) (before (taken a) us)
 unfolding any
 step u (Set r) us b e = e
 step u (Drive p x) us b e = e

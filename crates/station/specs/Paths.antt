@@ -5,6 +5,8 @@ use mathlib.Core.List.{List, [], _∷_}
 use lib.Dec.{eqb}
 use lib.ListN.{length, getD}
 use Rattle.std.specs.shelf.Lists.{Has}
+use Rattle.std.specs.declared.option.Option.{Option}
+use Rattle.std.specs.declared.option.Option.the-variants.{Some, None}
 use Rattle.firsts.specs.Claims.{any-below}
 use Rattle.firsts.specs.Lists.{any}
 use Rattle.station.specs.declared.tests.Action.{Action}
@@ -14,17 +16,21 @@ use Rattle.station.specs.Station.{Station}
 use Rattle.station.specs.Numbers.{route-at}
 use Rattle.station.specs.Alike.{same-action}
 
--- the subroute that an action locks, if any, before those that the later ones lock
-abbrev pub before-path : Action → List ℕ → List ℕ
-before-path (Set r) us = us
-before-path (Drive p x) us = us
-before-path (Take (Zone z)) us = us
-before-path (Take (Subroute u)) us = u ∷ us
+-- the subroute that an action locks
+abbrev pub taken : Action → Option ℕ
+taken (Set r) = None
+taken (Drive p x) = None
+taken (Take (Zone z)) = None
+taken (Take (Subroute u)) = Some u
+
+abbrev pub before : Option ℕ → List ℕ → List ℕ
+before None us = us
+before (Some u) us = u ∷ us
 
 -- the subroutes that the actions lock, in written order
 unfoldable pub path-of : List Action → List ℕ
 path-of [] = []
-path-of (a ∷ more) = before-path a (path-of more)
+path-of (a ∷ more) = before (taken a) (path-of more)
 
 -- a route's path
 abbrev pub path : Station → ℕ → List ℕ
