@@ -8,7 +8,7 @@ use Rattle.std.specs.Orderings.{Decides}
 use Rattle.std.specs.shelf.Lists.{All, At, Has}
 use Rattle.std.proofs.shelf.Lists.{at-drop-more, at-drop-all}
 use Rattle.std.proofs.shelf.Ways.{decides-by-and, decides-by-or, decides-like}
-use Rattle.std.proofs.shelf.Elements.{has-getD}
+use Rattle.std.proofs.shelf.Elements.{has-getD, all-has, all-weaker, all-has-itself}
 use Rattle.firsts.specs.Lists.{all, any}
 
 -- a test of every element tells what its parts tell
@@ -27,6 +27,15 @@ decides-some {X} {p} P d each xs =
     (λ (h : (k : ℕ) × (k < length xs) × At P xs k). (getD xs (h .0) d, has-getD xs (h .0) d (h .1), h .2 d))
     (λ (h : (x : X) × Has xs x × P x). (h .1 .0, h .1 .1, λ e. subst P (sym (h .1 .2 e)) (h .2)))
     (decides-any P each xs)
+
+all-by-has : {X : Type 0} (P : X → Type 0) (xs : List X) → ((x : X) → Has xs x → P x) → All P xs
+all-by-has P [] h = tt
+all-by-has P (y ∷ ys) h = all-weaker (Has (y ∷ ys)) P h (y ∷ ys) (all-has-itself (y ∷ ys))
+
+-- every element keeps P
+pub decides-every : {X : Type 0} {p : X → Bool} (P : X → Type 0) → ((x : X) → Decides (p x) (P x)) → (xs : List X) → Decides (all p xs) ((x : X) → Has xs x → P x)
+decides-every {X} {p} P each xs =
+    decides-like (all p xs) (λ (a : All P xs) x h. all-has P xs x a h) (all-by-has P xs) (decides-all P each xs)
 
 -- whether a list has x
 pub decides-has : {X : Type 0} {alike : X → X → Bool} → ((x y : X) → Decides (alike x y) (x ≡ y)) → (xs : List X) (x : X) → Decides (any (alike x) xs) (Has xs x)

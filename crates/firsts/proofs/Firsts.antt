@@ -11,7 +11,7 @@ use Rattle.std.specs.declared.option.Option.the-variants.{Some, None}
 use Rattle.std.proofs.shelf.Tests.{cases-order, cases-bool}
 use Rattle.std.proofs.shelf.Ways.{not-from-decides}
 use Rattle.firsts.specs.Search.{or-else, first-from, first-below, FoundAt, First}
-use Rattle.firsts.specs.Claims.{first-failing, Breaks, FirstBreach}
+use Rattle.firsts.specs.Claims.{first-failing, Breaks, FirstBreach, paired, first-pair, PairBreaks, FirstPair}
 
 same-or-more : (k j : ℕ) → k ≤ j → (j ≡ k) ⊎ (suc k ≤ j)
 same-or-more k j h = ⊎-elim (λ e. inl e) (λ o. inr (⊎-elim (λ l. absurd (omega arith)) (λ m. m) o)) (cases-order j k)
@@ -102,3 +102,26 @@ breach-from p P each n (Some x) h =
 -- the first number of which a test fails is the first that breaks what the test tells
 pub breach-is : (p : ℕ → Bool) (P : ℕ → Type 0) (each : (i : ℕ) → Decides (p i) (P i)) (n : ℕ) → FirstBreach P n (first-failing p n)
 breach-is p P each n = breach-from p P each n (first-failing p n) (first-is (λ i. cond (p i) None (Some i)) n)
+
+-- what a row of pairs answers
+module _ (P : ℕ → ℕ → Type 0) (m : ℕ) where
+  row-none : (i : ℕ) (o : Option ℕ) → FirstBreach (P i) m o → paired i o ≡ None → (j : ℕ) → j < m → P i j
+  row-none i None h e = h
+  row-none i (Some k) h e = let z : _≡_ {A = ℕ} 0 1 = cc in absurd (omega arith)
+
+  row-some : (n i : ℕ) (o : Option ℕ) (q : ℕ × ℕ) → i < n → ((a b : ℕ) → a < i → b < m → P a b) → FirstBreach (P i) m o → paired i o ≡ Some q → PairBreaks P n m q
+  row-some n i None q l before h e = let z : _≡_ {A = ℕ} 0 1 = cc in absurd (omega arith)
+  row-some n i (Some k) q l before h e =
+      let s : (i, k) ≡ q = cc in
+      subst (PairBreaks P n m) s (record { within = l; inside = h .within; broken = h .broken; beside = h .before; before = before })
+
+  pair-from : (f : ℕ → Option ℕ) (each : (i : ℕ) → FirstBreach (P i) m (f i)) (n : ℕ) (r : Option (ℕ × ℕ)) → First (λ i. paired i (f i)) n r → FirstPair P n m r
+  pair-from f each n None h = λ i j a b. row-none i (f i) (each i) (h i a) j b
+  pair-from f each n (Some q) h =
+      row-some n (h .place) (f (h .place)) q (h .within) (λ a b l w. row-none a (f a) (each a) (h .before a l) b w) (each (h .place)) (h .answer)
+
+-- the first pair of which a test fails is the first that breaks what the test tells
+pub pair-is : (p : ℕ × ℕ → Bool) (P : ℕ → ℕ → Type 0) (each : (i j : ℕ) → Decides (p (i, j)) (P i j)) (n m : ℕ) → FirstPair P n m (first-pair p n m)
+pair-is p P each n m =
+    pair-from P m (λ i. first-failing (λ j. p (i, j)) m) (λ i. breach-is (λ j. p (i, j)) (P i) (each i) m) n (first-pair p n m)
+    (first-is (λ i. paired i (first-failing (λ j. p (i, j)) m)) n)

@@ -1,7 +1,7 @@
 // Claims about the numbers below a bound.
 ghost use mathlib.Core.Bool.{Bool};
 ghost use mathlib.Core.Path.{_≡_};
-ghost use Rattle.firsts.specs.Claims.{all-below, any-below, first-failing};
+ghost use Rattle.firsts.specs.Claims.{all-below, any-below, first-failing, first-pair};
 
 // What may hold of a thing or not.
 pub trait Claim<T> {
@@ -42,6 +42,30 @@ pub fn first_breach<C: Claim<usize>>(claim: &C, n: usize) -> Option<usize>
     for i in 0..n {
         if !claim.holds(i) {
             return Some(i);
+        }
+    }
+    None
+}
+
+// The first number below m that with i makes a pair of which the claim does not hold.
+fn first_partner<C: Claim<(usize, usize)>>(claim: &C, i: usize, m: usize) -> Option<usize>
+    ensures { λ r. ⌜ r ≡ first-failing (λ j. C·Claim .holds (now (claim .entry)) (i, j)) m ⌝ }
+{
+    for j in 0..m {
+        if !claim.holds((i, j)) {
+            return Some(j);
+        }
+    }
+    None
+}
+
+// The first pair of a number below n and one below m of which the claim does not hold.
+pub fn first_pair<C: Claim<(usize, usize)>>(claim: &C, n: usize, m: usize) -> Option<(usize, usize)>
+    ensures { λ r. ⌜ r ≡ first-pair (C·Claim .holds (now (claim .entry))) n m ⌝ }
+{
+    for i in 0..n {
+        if let Some(j) = first_partner(claim, i, m) {
+            return Some((i, j));
         }
     }
     None

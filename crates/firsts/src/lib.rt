@@ -6,6 +6,7 @@ mod probes;
 pub use claims::Claim;
 pub use claims::every_below;
 pub use claims::first_breach;
+pub use claims::first_pair;
 pub use claims::some_below;
 pub use lists::every_of;
 pub use lists::some_of;
