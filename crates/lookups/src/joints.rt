@@ -1,6 +1,7 @@
 // What lies at a joint.
 ghost use mathlib.Core.Path.{_≡_};
 ghost use Rattle.station.specs.Station.{station};
+ghost use Rattle.station.specs.Numbers.{signal-at};
 ghost use Rattle.station.specs.Joints.{is-segment, is-stop, beside, touches, across, signalled};
 use crate::counts::joint_count;
 use crate::numbers::joint;
@@ -69,4 +70,19 @@ pub fn signalled(tables: &Tables, joint: usize, segment: usize) -> bool
     ensures { λ r. ⌜ r ≡ signalled (station (now (tables .entry))) joint segment ⌝ }
 {
     has(tables.signals.as_slice(), &Signal { joint, segment })
+}
+
+// A signal by number; one that is lacking stands at 0.
+pub fn signal(tables: &Tables, n: usize) -> Signal
+    ensures { λ r. ⌜ r ≡ signal-at (station (now (tables .entry))) n ⌝ }
+{
+    let signals = tables.signals.as_slice();
+    if n < signals.len() {
+        signals[n]
+    } else {
+        Signal {
+            joint: 0,
+            segment: 0,
+        }
+    }
 }
