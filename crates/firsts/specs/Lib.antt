@@ -1,3 +1,4 @@
 pub mod Search
 pub mod Claims
 pub mod Lists
+pub mod Least
