@@ -1,0 +1,10 @@
+// A draft becomes an accepted station only by the check.
+mod accepted;
+mod breaches;
+mod checking;
+mod numbers;
+mod rules;
+
+pub use accepted::Accepted;
+pub use breaches::Breach;
+pub use checking::Draft;
