@@ -2,6 +2,7 @@
 mod accepted;
 mod breaches;
 mod checking;
+mod facts;
 mod numbers;
 mod rules;
 
