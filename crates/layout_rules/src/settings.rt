@@ -8,12 +8,12 @@ ghost use Rattle.firsts.specs.Lists.{any};
 ghost use Rattle.station.specs.Alike.{same-setting};
 ghost use Rattle.layout_rules.specs.Ways.{named, names, once-each};
 ghost use Rattle.layout_rules.specs.WayPairs.{within};
+use alike::SettingSame;
+use alike::has;
 use firsts::Claim;
 use firsts::every_below;
 use firsts::every_of;
 use firsts::some_of;
-use lookups::SettingSame;
-use lookups::has;
 use station::Setting;
 
 #[derive(Clone, Copy)]

@@ -1,6 +1,6 @@
 use mathlib.Core.Path.{sym, ap, _∙_}
 use Rattle.firsts.proofs.Elements.{any-stop, any-go, any-end}
-use Rattle.lookups.proofs.same.has.Needs as need
+use Rattle.alike.proofs.same.has.Needs as need
 
 pub returns-then-same : need.returns-then-same
 returns-then-same g c =
