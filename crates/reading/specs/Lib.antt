@@ -1,0 +1,4 @@
+pub mod Resolve
+pub mod Entries
+pub mod Tables
+pub mod Reading

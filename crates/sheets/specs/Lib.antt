@@ -1,0 +1,4 @@
+pub mod Layout
+pub mod Data
+pub mod Outcomes
+pub mod Sections

@@ -1,0 +1,4 @@
+pub mod Pasts
+pub mod Grows
+pub mod Steps
+pub mod Looks
