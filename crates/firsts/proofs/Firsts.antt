@@ -125,3 +125,12 @@ pub pair-is : (p : ℕ × ℕ → Bool) (P : ℕ → ℕ → Type 0) (each : (i 
 pair-is p P each n m =
     pair-from P m (λ i. first-failing (λ j. p (i, j)) m) (λ i. breach-is (λ j. p (i, j)) (P i) (each i) m) n (first-pair p n m)
     (first-is (λ i. paired i (first-failing (λ j. p (i, j)) m)) n)
+
+from-same : {X : Type 0} (f g : ℕ → Option X) → ((k : ℕ) → f k ≡ g k) → (n k : ℕ) → first-from f k n ≡ first-from g k n
+unfolding first-from
+from-same f g e zero k = refl
+from-same f g e (suc n) k = ap (λ o. or-else o (first-from f (suc k) n)) (e k) ∙ ap (or-else (g k)) (from-same f g e n (suc k))
+
+-- the same answers have the same first
+pub first-same : {X : Type 0} (f g : ℕ → Option X) → ((k : ℕ) → f k ≡ g k) → (n : ℕ) → first-below f n ≡ first-below g n
+first-same f g e n = from-same f g e n 0

@@ -12,3 +12,4 @@ pub use lists::every_of;
 pub use lists::some_of;
 pub use probes::Probe;
 pub use probes::first;
+pub use probes::least;

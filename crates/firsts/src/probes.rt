@@ -3,6 +3,7 @@ ghost use mathlib.Core.Path.{_≡_};
 ghost use Prim.Native.Nat.{ℕ};
 ghost use Rattle.std.specs.declared.option.Option.{Option as Maybe};
 ghost use Rattle.firsts.specs.Search.{first-below};
+ghost use Rattle.firsts.specs.Least.{lower, least-below};
 
 // A question that has an answer at some numbers.
 pub trait Probe {
@@ -24,4 +25,28 @@ pub fn first<P: Probe>(p: &P, n: usize) -> Option<P::Found>
         }
     }
     None
+}
+
+// The lower of two answers, where there are two.
+fn lower(a: Option<usize>, b: Option<usize>) -> Option<usize>
+    ensures { λ r. ⌜ r ≡ lower a b ⌝ }
+{
+    match a {
+        None => b,
+        Some(x) => match b {
+            None => Some(x),
+            Some(y) => Some(x.min(y)),
+        },
+    }
+}
+
+// The lowest answer at the numbers below n.
+pub fn least<P: Probe<Found = usize>>(p: &P, n: usize) -> Option<usize>
+    ensures { λ r. ⌜ r ≡ least-below (at (now (p .entry))) n ⌝ }
+{
+    let mut lowest = None;
+    for i in 0..n {
+        lowest = lower(lowest, p.probe(i));
+    }
+    lowest
 }

@@ -1,0 +1,4 @@
+pub mod Sides
+pub mod Ways
+pub mod WayPairs
+pub mod Signals

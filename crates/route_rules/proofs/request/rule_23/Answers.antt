@@ -1,0 +1,12 @@
+use mathlib.Core.Path.{_≡_, sym, ap, subst, _∙_}
+use Rattle.firsts.specs.Claims.{first-failing}
+use Rattle.station.specs.Station.{station}
+use Rattle.route_rules.specs.Request.{Breach-23}
+use Rattle.route_rules.proofs.Told.{first-23}
+use Rattle.route_rules.proofs.request.rule_23.Needs as need
+
+pub returns : need.returns
+returns c =
+    let s = station (c .args .tables .now) in
+    let v = c .first-breach .ensures ∙ ap (first-failing _) (c .route-count .ensures) in
+    record { value = v; first = subst (Breach-23 s) (sym v) (first-23 s) }

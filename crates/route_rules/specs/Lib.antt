@@ -1,0 +1,4 @@
+pub mod Path
+pub mod Signals
+pub mod Request
+pub mod Activation

@@ -1,0 +1,4 @@
+pub mod Alike
+pub mod Paths
+pub mod Covers
+pub mod Joints
