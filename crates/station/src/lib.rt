@@ -4,6 +4,7 @@ mod tables;
 mod tests;
 
 pub use names::Name;
+pub use names::NameDisplay;
 pub use tables::Beyond;
 pub use tables::Joint;
 pub use tables::Point;
