@@ -9,6 +9,9 @@ use std::alloc::Global;
 use std::error::AnyError;
 use std::io::BufRead;
 use std::io::BufReader;
+use verdicts::Line;
+use verdicts::LineDisplay;
+use verdicts::judge;
 
 #[derive(Drop)]
 struct Case {
@@ -43,17 +46,13 @@ impl Case {
         let heap = rt.alloc();
         let label = self.label.as_str();
         let mut tables = Tables::new(heap);
-        match reading::read(self.text.as_slice(), heap, &mut tables) {
-            Ok(()) => {
-                let segments = tables.segments.len();
-                let routes = tables.routes.len();
-                println!(rt, "{label}: DRAFT segments {segments} routes {routes}")?;
-            }
-            Err(fault) => match fault.code() {
-                Some((number, at)) => println!(rt, "{label}: UNREAD {number} {at}")?,
-                None => println!(rt, "{label}: no memory")?,
-            },
-        }
+        let mut board = [7u8; 64];
+        let verdict = judge(self.text.as_slice(), heap, &mut tables, &mut board);
+        let line = Line {
+            tables: &tables,
+            verdict,
+        };
+        println!(rt, "{label}: {line}")?;
         Ok(())
     }
 }

@@ -4,6 +4,7 @@ use crate::names::LineDisplay;
 use crate::places::place_of;
 use crate::verdict::Verdict;
 use check::Breach;
+use station::Tables;
 use std::fmt;
 
 // What the rule that a breach is of wants.
@@ -61,14 +62,18 @@ fn fault_text(number: u8) -> &'static str {
 // An answer that is no acceptance, with the reason in words.
 #[derive(Clone, Copy)]
 pub struct Explained<'a> {
-    pub line: Line<'a>,
+    pub tables: &'a Tables,
+    pub verdict: Verdict,
     pub text: &'a [u8],
 }
 
 pub impl fmt::Display for Explained<'_> as ExplainedDisplay {
     fn fmt<W: fmt::Write>(&self, f: &mut fmt::Formatter<W>) -> fmt::Result {
-        let line = self.line;
-        match line.verdict {
+        let line = Line {
+            tables: self.tables,
+            verdict: self.verdict,
+        };
+        match self.verdict {
             Verdict::Accepted(_, _) => write!(f, "{line}"),
             Verdict::Refused(breach) => {
                 let wanted = rule_text(breach);

@@ -116,8 +116,11 @@ fn things<W: fmt::Write>(
         Breach::Activation(r) => (Thing::Route(r), None, None),
         Breach::Release(u) => (Thing::Subroute(u), None, None),
         Breach::Row(p, u) => (Thing::Point(p), Some(Thing::Subroute(u)), None),
-        Breach::Conflict(r, o, t) =>
-            (Thing::Route(r), Some(Thing::Route(o)), Some(Thing::Segment(t))),
+        Breach::Conflict(r, o, t) => (
+            Thing::Route(r),
+            Some(Thing::Route(o)),
+            Some(Thing::Segment(t)),
+        ),
     };
     let first = Shown {
         tables,

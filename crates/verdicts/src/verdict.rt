@@ -43,12 +43,7 @@ fn checked(tables: &Tables, board: &mut [u8; 64]) -> Verdict
 }
 
 // What the text comes to; the tables then hold what was read, and the board what it held before.
-pub fn judge(
-    text: &[u8],
-    heap: Global,
-    tables: &mut Tables,
-    board: &mut [u8; 64],
-) -> Verdict
+pub fn judge(text: &[u8], heap: Global, tables: &mut Tables, board: &mut [u8; 64]) -> Verdict
     ensures value { λ r. ⌜ Judges r (verdict (now (text .entry))) ⌝ }
     ensures tables { λ r. ⌜ Holds r (station (now (tables .exit))) (reading (now (text .entry))) ⌝ }
     ensures same { λ _. ⌜ now (board .exit) ≡ now (board .entry) ⌝ }

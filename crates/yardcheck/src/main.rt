@@ -1,8 +1,8 @@
 // Reads a station text from standard input, checks it, and says in one line what comes of it. Only an
 // accepted station ends the program with status 0; for a person, the reason goes to standard error.
+use station::Tables;
 use std::error::AnyError;
 use std::io::Read;
-use station::Tables;
 use verdicts::Explained;
 use verdicts::ExplainedDisplay;
 use verdicts::Line;
@@ -30,7 +30,8 @@ fn main(rt: LibcRuntime) -> Result<(), AnyError> {
         return Ok(());
     }
     let explained = Explained {
-        line,
+        tables: &tables,
+        verdict,
         text: text.as_slice(),
     };
     eprintln!(rt, "{explained}")?;

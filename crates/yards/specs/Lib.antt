@@ -1,0 +1,2 @@
+pub mod Yards
+pub mod Judged
