@@ -1,14 +1,20 @@
--- The line and the column of an offset: lines end at LF, and both count from 1.
-use mathlib.Core.Bool.{not}
-use mathlib.Core.List.{List, reverse}
-use Prim.Native.Nat.{ℕ, _+_}
+-- Where an offset stands in a text: the line ends before it, and the octets since the last of them.
+use mathlib.Core.Bool.{Bool, not}
+use mathlib.Core.List.{List}
+use Prim.Native.Nat.{ℕ}
 use lib.Dec.{eqb}
 use lib.ListN.{take}
-use Rattle.std.specs.shelf.Lists.{countBy, leading}
+use Rattle.std.specs.shelf.Lists.{countBy, ending}
 
-abbrev pub line-of : List ℕ → ℕ → ℕ
-line-of t at = countBy (λ b. eqb b 10) (take at t) + 1
+-- LF ends a line
+abbrev pub ends-line : ℕ → Bool
+ends-line b = eqb b 10
 
--- one more than the octets since the last LF
-abbrev pub column-of : List ℕ → ℕ → ℕ
-column-of t at = leading (λ b. not (eqb b 10)) (reverse (take at t)) + 1
+abbrev pub within-line : ℕ → Bool
+within-line b = not (ends-line b)
+
+abbrev pub lines-before : List ℕ → ℕ → ℕ
+lines-before t at = countBy ends-line (take at t)
+
+abbrev pub octets-since : List ℕ → ℕ → ℕ
+octets-since t at = ending within-line (take at t)

@@ -82,8 +82,8 @@ pub impl fmt::Display for Explained<'_> as ExplainedDisplay {
             Verdict::Unread(number, at) => {
                 let fault = fault_text(number);
                 let place = place_of(self.text, at);
-                let row = place.line;
-                let column = place.column;
+                let row = place.lines.saturating_add(1);
+                let column = place.octets.saturating_add(1);
                 write!(f, "line {row}, column {column}: {fault}")
             }
             Verdict::NoMemory => write!(f, "{line}"),

@@ -1,22 +1,28 @@
 // Offsets as lines and columns.
+ghost use mathlib.Core.Path.{_≡_};
+ghost use Rattle.verdicts.specs.Places.{lines-before, octets-since};
 
-// Both count from 1; a line ends at LF.
+// How many lines end before an offset, and how many octets of its own line do.
 #[derive(Clone, Copy)]
 pub struct Place {
-    pub line: usize,
-    pub column: usize,
+    pub lines: usize,
+    pub octets: usize,
 }
 
-pub fn place_of(text: &[u8], at: usize) -> Place {
-    let mut line: usize = 1;
-    let mut column: usize = 1;
-    for b in text.iter().take(at) {
+pub fn place_of(text: &[u8], at: usize) -> Place
+    ensures lines { λ r. ⌜ r .lines ≡ lines-before (now (text .entry)) at ⌝ }
+    ensures octets { λ r. ⌜ r .octets ≡ octets-since (now (text .entry)) at ⌝ }
+{
+    let (front, _) = text.split_at(at.min(text.len()));
+    let mut lines = 0;
+    let mut octets = 0;
+    for b in front {
         if *b == b'\n' {
-            line = line.saturating_add(1);
-            column = 1;
+            lines += 1;
+            octets = 0;
         } else {
-            column = column.saturating_add(1);
+            octets += 1;
         }
     }
-    Place { line, column }
+    Place { lines, octets }
 }
