@@ -1,37 +1,29 @@
 -- What follows from the rules.
 use mathlib.Core.Path.{_≡_, refl, sym, ap, subst, _∙_}
 use mathlib.Core.Bool.{Bool, true, false, cond}
-use mathlib.Core.List.{List}
 use mathlib.Core.Logic.{_⊎_, inl, inr, ⊎-elim}
-use Prim.Native.Nat.{ℕ, suc, _+_, _*_, _/_, _-_, _≤_, _<_}
+use Prim.Native.Nat.{ℕ, suc, _/_, _-_, _<_}
 use native.Mathlib.Omega.{arith}
-use lib.Dec.{eqb}
-use lib.ListN.{length, getD}
-use Rattle.std.specs.shelf.Lists.{Has, At}
-use Rattle.std.proofs.shelf.Tests.{cases-order, cases-bool, cases-eq, eq-eqb, ne-eqb, cond-true, cond-false}
+use lib.ListN.{length}
+use Rattle.std.specs.shelf.Lists.{Has}
+use Rattle.std.proofs.shelf.Tests.{cases-order, eq-eqb, ne-eqb, cond-true, cond-false}
 use Rattle.station.specs.declared.tests.Position.{Position}
 use Rattle.station.specs.declared.tests.Lock.{Lock}
 use Rattle.station.specs.declared.tests.Lock.the-variants.{Zone, Subroute}
-use Rattle.station.specs.declared.tests.RequestTest.{RequestTest}
-use Rattle.station.specs.declared.tests.RequestTest.the-variants.{Free}
-use Rattle.station.specs.declared.tests.PointTest.{PointTest}
 use Rattle.station.specs.declared.tests.Action.{Action}
-use Rattle.station.specs.declared.tests.Action.the-variants.{Set, Drive, Take}
-use Rattle.station.specs.declared.tables.Beyond.{Beyond}
-use Rattle.station.specs.declared.tables.Beyond.the-variants.{Segment, Outside, BufferStop}
+use Rattle.station.specs.declared.tests.Action.the-variants.{Set, Drive}
+use Rattle.station.specs.declared.tables.Beyond.the-variants.{Segment}
 use Rattle.station.specs.declared.tables.Setting.{Setting}
 use Rattle.station.specs.Station.{Station, WayEntry}
-use Rattle.station.specs.Numbers.{joint-at, way-at, point-at, route-at}
+use Rattle.station.specs.Numbers.{joint-at, way-at, route-at}
 use Rattle.station.specs.Subroutes.{subroutes, way-of, against, start, end, segment-of}
 use Rattle.station.specs.Joints.{Touches, across}
-use Rattle.station.specs.Paths.{path, path-length, on-path, Uses, Used}
-use Rattle.station.specs.Covers.{Covers, Guards, PointGuards, RequestGuards}
-use Rattle.layout_rules.specs.Ways.{SoundWay, Names}
+use Rattle.station.specs.Paths.{path, path-length, on-path, Used}
+use Rattle.station.specs.Covers.{Guards, RequestGuards}
+use Rattle.layout_rules.specs.Ways.{SoundWay}
 use Rattle.layout_rules.specs.WayPairs.{Share-joint, Within}
 use Rattle.route_rules.specs.Path.{SoundPath}
-use Rattle.route_rules.specs.Request.{SoundRequest, action-at, Drives}
-use Rattle.lock_rules.specs.Release.{SoundRelease}
-use Rattle.lock_rules.specs.Points.{RowsGuard}
+use Rattle.route_rules.specs.Request.{action-at, Drives}
 use Rattle.conflicts.specs.Conflicts.{Meets}
 use Rattle.check.specs.Soundness.{Sound, sound}
 use Rattle.check.specs.Consequences.{Lie, Covering, WayFacts, PathFacts, SignalFacts, RowFacts, Consequences}

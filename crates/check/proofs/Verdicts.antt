@@ -1,7 +1,7 @@
 -- The first breach tells that its things are the first to break their rule and that all lower rules hold; where there is none, all rules hold.
-use mathlib.Core.Path.{_≡_, refl, sym, ap, subst, _∙_}
-use mathlib.Core.Bool.{Bool, true, false, not}
-use Prim.Native.Nat.{ℕ, _<_}
+use mathlib.Core.Path.{_≡_, refl, subst}
+use mathlib.Core.Bool.{true, not}
+use Prim.Native.Nat.{ℕ}
 use native.Mathlib.Omega.{arith}
 use Rattle.std.specs.Options.{Cases, isSome, mapped}
 use Rattle.std.specs.declared.option.Option.{Option}
@@ -26,7 +26,7 @@ use Rattle.conflicts.proofs.Told.{first-27}
 use Rattle.check.specs.declared.breaches.Breach.{Breach}
 use Rattle.check.specs.declared.breaches.Breach.the-variants.{Joint, Way, Ways, Signal, Path, Signals, Request, Activation, Release, Row, Conflict}
 use Rattle.check.specs.Breaches.{by-two, by-three, layout-breach, route-breach, lock-breach, conflict-breach, first-broken}
-use Rattle.check.specs.Soundness.{Rule-25, Rule-26, Rule-27, SoundLayout, SoundRoutes, Sound, sound, FirstBroken}
+use Rattle.check.specs.Soundness.{Rule-25, Rule-26, SoundLayout, SoundRoutes, Sound, sound, FirstBroken}
 
 -- one search after another
 chain : {X : Type 0} (P Q : Type 0) (F : X → Type 0) (x y : Option X) → Cases x P F → (P → Cases y Q F) → Cases (or-else x y) Q F

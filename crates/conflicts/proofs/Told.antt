@@ -1,9 +1,8 @@
 -- The test of rule 27 tells what the rule says.
 use mathlib.Core.Path.{_≡_, refl, sym, ap, subst, _∙_}
 use mathlib.Core.Bool.{Bool, true, false, cond, not, _&&_}
-use Prim.Native.Nat.{ℕ, _≤_, _<_}
+use Prim.Native.Nat.{ℕ, _<_}
 use native.Mathlib.Omega.{arith}
-use lib.Dec.{eqb}
 use lib.ListN.{length}
 use Rattle.std.specs.Options.{Cases}
 use Rattle.std.specs.Orderings.{Decides}
@@ -11,8 +10,8 @@ use Rattle.std.specs.declared.option.Option.{Option}
 use Rattle.std.specs.declared.option.Option.the-variants.{Some, None}
 use Rattle.std.proofs.shelf.Ways.{decides-eqb}
 use Rattle.firsts.specs.Claims.{paired}
-use Rattle.firsts.specs.Least.{least-below, LowestAt, Lowest}
-use Rattle.firsts.specs.Search.{first-below, FoundAt, First}
+use Rattle.firsts.specs.Least.{Lowest}
+use Rattle.firsts.specs.Search.{First}
 use Rattle.firsts.proofs.Below.{decides-any-below}
 use Rattle.firsts.proofs.Firsts.{first-is}
 use Rattle.firsts.proofs.Lowest.{lowest-is}

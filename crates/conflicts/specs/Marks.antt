@@ -7,7 +7,6 @@ use lib.Dec.{eqb, ltb}
 use lib.ListN.{getD}
 use Rattle.std.specs.declared.option.Option.{Option}
 use Rattle.std.specs.declared.option.Option.the-variants.{Some, None}
-use Rattle.firsts.specs.Claims.{paired}
 use Rattle.firsts.specs.Least.{least-below}
 use Rattle.station.specs.Station.{Station}
 use Rattle.station.specs.Numbers.{route-at}

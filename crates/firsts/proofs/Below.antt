@@ -1,13 +1,12 @@
 -- Tests of every number and of some number below a bound: the steps of a loop, and what they tell.
 use mathlib.Core.Path.{_≡_, refl, sym, ap, _∙_}
 use mathlib.Core.Bool.{Bool, true, false, _&&_, _||_}
-use mathlib.Core.Logic.{_⊎_, inl, inr, ⊎-elim}
-use Prim.Native.Nat.{ℕ, zero, suc, _+_, _≤_, _<_}
+use Prim.Native.Nat.{ℕ, _+_, _≤_, _<_}
 use native.Mathlib.Numerals.{add-one}
 use native.Mathlib.Omega.{arith}
 use Rattle.std.specs.Orderings.{Decides}
-use Rattle.std.proofs.shelf.Tests.{both-ways, cases-bool}
-use Rattle.std.proofs.shelf.Ways.{decides-below-and, decides-below-or, decides-eqb, decides-like}
+use Rattle.std.proofs.shelf.Tests.{both-ways}
+use Rattle.std.proofs.shelf.Ways.{decides-below-and, decides-below-or}
 use Rattle.firsts.specs.Claims.{all-below, any-below}
 
 -- a test of every number below n tells what its parts tell

@@ -8,9 +8,9 @@ use Rattle.std.specs.Options.{Cases}
 use Rattle.std.specs.Orderings.{Decides}
 use Rattle.std.specs.declared.option.Option.{Option}
 use Rattle.std.specs.declared.option.Option.the-variants.{Some, None}
-use Rattle.std.proofs.shelf.Tests.{cases-order, cases-bool}
+use Rattle.std.proofs.shelf.Tests.{cases-order}
 use Rattle.std.proofs.shelf.Ways.{not-from-decides}
-use Rattle.firsts.specs.Search.{or-else, first-from, first-below, FoundAt, First}
+use Rattle.firsts.specs.Search.{or-else, first-from, first-below, First}
 use Rattle.firsts.specs.Claims.{first-failing, Breaks, FirstBreach, paired, first-pair, PairBreaks, FirstPair}
 
 same-or-more : (k j : ℕ) → k ≤ j → (j ≡ k) ⊎ (suc k ≤ j)

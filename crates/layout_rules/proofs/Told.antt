@@ -1,9 +1,7 @@
 -- The test of each rule of the layout tells what the rule says.
-use mathlib.Core.Path.{_≡_, refl, sym, ap, _∙_}
-use mathlib.Core.Bool.{Bool, true, false, cond, not, _&&_}
+use mathlib.Core.Path.{_≡_}
 use mathlib.Core.List.{List}
 use Prim.Native.Nat.{ℕ, _<_}
-use lib.Dec.{eqb, ltb}
 use lib.ListN.{length}
 use Rattle.std.specs.Orderings.{Decides}
 use Rattle.std.specs.shelf.Lists.{Has}
@@ -14,7 +12,6 @@ use Rattle.firsts.proofs.Firsts.{breach-is, pair-is}
 use Rattle.station.specs.declared.tests.Position.the-variants.{Normal}
 use Rattle.station.specs.declared.tables.Setting.{Setting}
 use Rattle.station.specs.declared.tables.Signal.{Signal}
-use Rattle.station.specs.declared.tables.Beyond.the-variants.{Segment}
 use Rattle.station.specs.Station.{Station, WayEntry}
 use Rattle.station.specs.Numbers.{joint-at, way-at, point-at, signal-at}
 use Rattle.station.specs.Joints.{across}
@@ -22,8 +19,8 @@ use Rattle.station.proofs.Alike.{decides-setting}
 use Rattle.station.proofs.Covers.{decides-where}
 use Rattle.station.proofs.Joints.{decides-is-segment, decides-is-stop, decides-touches}
 use Rattle.layout_rules.specs.Sides.{Parts, parts, breach-11, Breach-11}
-use Rattle.layout_rules.specs.Ways.{At-home, at-home, Names, names, named, SoundWay, joints-fit, all-named, once-each, points-fit, sound-way, breach-12, Breach-12}
-use Rattle.layout_rules.specs.WayPairs.{Same-joints, same-joints, Share-joint, share-joint, Within, within, Points-alike, points-alike, WaysApart, ways-apart, Pair-apart, pair-apart, breach-13, Breach-13}
+use Rattle.layout_rules.specs.Ways.{At-home, at-home, Names, names, named, SoundWay, sound-way, breach-12, Breach-12}
+use Rattle.layout_rules.specs.WayPairs.{Same-joints, same-joints, Share-joint, share-joint, Within, within, WaysApart, ways-apart, Pair-apart, pair-apart, breach-13, Breach-13}
 use Rattle.layout_rules.specs.Signals.{SoundSignal, sound-signal, breach-14, Breach-14}
 
 pub decides-parts : (s : Station) (j : ℕ) → Decides (parts s j) (Parts s j)

@@ -1,10 +1,10 @@
 -- The test of each rule of locks tells what the rule says.
 use mathlib.Core.Path.{_≡_, refl, sym, ap, subst, _∙_}
-use mathlib.Core.Bool.{Bool, true, false, cond, _&&_}
+use mathlib.Core.Bool.{Bool, true, false, cond}
 use mathlib.Core.List.{List}
 use mathlib.Core.Logic.{⊎-elim}
-use Prim.Native.Nat.{ℕ, _-_, _≤_, _<_}
-use lib.Dec.{eqb, ltb}
+use Prim.Native.Nat.{ℕ, _-_, _<_}
+use lib.Dec.{ltb}
 use lib.ListN.{length}
 use native.Mathlib.Omega.{arith}
 use Rattle.std.specs.Orderings.{Decides}
@@ -20,7 +20,7 @@ use Rattle.station.specs.declared.tests.ReleaseTest.the-variants.{Unset, Free, 
 use Rattle.station.specs.Station.{Station}
 use Rattle.station.specs.Numbers.{release-at, point-at}
 use Rattle.station.specs.Subroutes.{subroutes, segment-of}
-use Rattle.station.specs.Paths.{path, path-length, on-path, uses, Uses, used, Used}
+use Rattle.station.specs.Paths.{path, path-length, on-path, Uses, used}
 use Rattle.station.proofs.Alike.{decides-release}
 use Rattle.station.proofs.Paths.{decides-uses, decides-used}
 use Rattle.station.proofs.Covers.{decides-where, decides-point-guards}

@@ -1,6 +1,5 @@
 // A route's path: the subroutes that its request locks, in written order.
 ghost use mathlib.Core.Path.{_≡_};
-ghost use mathlib.Core.List.{List};
 ghost use lib.ListN.{length, getD};
 ghost use Rattle.station.specs.Station.{station};
 ghost use Rattle.station.specs.Paths.{taken, path-of, path-length, on-path};

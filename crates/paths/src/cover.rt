@@ -4,7 +4,7 @@ ghost use mathlib.Core.Bool.{true, cond};
 ghost use denote.Ref.{now as held};
 ghost use Rattle.station.specs.Station.{station};
 ghost use Rattle.station.specs.Paths.{uses, locks};
-ghost use Rattle.station.specs.Covers.{users-lock, covers, guards, test-guards, request-guards, point-guards};
+ghost use Rattle.station.specs.Covers.{covers, guards, test-guards, request-guards, point-guards};
 use crate::users::locks;
 use crate::users::uses;
 use alike::ReleaseTestSame;

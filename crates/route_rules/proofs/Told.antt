@@ -1,15 +1,12 @@
 -- The test of each rule of routes tells what the rule says.
-use mathlib.Core.Path.{_≡_, refl, sym, ap, subst, _∙_}
-use mathlib.Core.Bool.{Bool, true, false, cond, not, _&&_}
+use mathlib.Core.Path.{_≡_, refl, sym, subst}
 use mathlib.Core.List.{List}
 use Prim.Native.Nat.{ℕ, _-_, _<_}
-use lib.Dec.{eqb, ltb}
 use lib.ListN.{length}
 use native.Mathlib.Omega.{arith}
 use Rattle.std.specs.Orderings.{Decides}
 use Rattle.std.specs.shelf.Lists.{Has}
-use Rattle.std.proofs.shelf.Ways.{decides-eqb, decides-ltb, decides-not, decides-and, decides-or, decides-like}
-use Rattle.firsts.specs.Claims.{all-below}
+use Rattle.std.proofs.shelf.Ways.{decides-eqb, decides-ltb, decides-not, decides-and, decides-like}
 use Rattle.firsts.proofs.Below.{decides-all-below}
 use Rattle.firsts.proofs.Elements.{decides-has, decides-every}
 use Rattle.firsts.proofs.Firsts.{breach-is}
@@ -30,9 +27,9 @@ use Rattle.station.specs.Paths.{path-length, on-path}
 use Rattle.station.proofs.Alike.{decides-request, decides-action, decides-activation}
 use Rattle.station.proofs.Covers.{decides-where}
 use Rattle.station.proofs.Joints.{decides-signalled}
-use Rattle.route_rules.specs.Path.{SoundPath, joined-at, fresh-at, sound-at, sound-path, breach-21, Breach-21}
-use Rattle.route_rules.specs.Signals.{Into, into, Onward, onward, last-of, past, SoundSignals, unsignalled-at, sound-signals, breach-22, Breach-22}
-use Rattle.route_rules.specs.Request.{action-at, Drives, drives, SoundRequest, fits, first-drive, driven-once, drives-all, path-driven, row-fits, sound-request, breach-23, Breach-23}
+use Rattle.route_rules.specs.Path.{SoundPath, sound-at, sound-path, breach-21, Breach-21}
+use Rattle.route_rules.specs.Signals.{Into, into, Onward, onward, last-of, past, SoundSignals, sound-signals, breach-22, Breach-22}
+use Rattle.route_rules.specs.Request.{action-at, Drives, drives, SoundRequest, fits, first-drive, drives-all, sound-request, breach-23, Breach-23}
 use Rattle.route_rules.specs.Activation.{Asks, asks, SoundActivation, sound-activation, breach-24, Breach-24}
 
 -- what rule 21 says of the k-th subroute

@@ -5,7 +5,7 @@ ghost use Rattle.station.specs.Station.{station};
 ghost use Rattle.station.specs.Numbers.{route-at};
 ghost use Rattle.station.specs.Subroutes.{settings-of};
 ghost use Rattle.station.specs.Paths.{on-path};
-ghost use Rattle.route_rules.specs.Request.{drives-all, path-driven, sound-request, breach-23, Breach-23};
+ghost use Rattle.route_rules.specs.Request.{drives-all, sound-request, breach-23, Breach-23};
 use crate::row::drives_all;
 use crate::row::row_fits;
 use firsts::Claim;

@@ -5,7 +5,7 @@ ghost use denote.Ref.{now as held};
 ghost use Rattle.firsts.specs.Lists.{any};
 ghost use Rattle.station.specs.Alike.{same-action};
 ghost use Rattle.station.specs.declared.tests.Action.the-variants.{Drive};
-ghost use Rattle.route_rules.specs.Request.{action-at, drives, fits, first-drive, driven-once, drives-all, row-fits};
+ghost use Rattle.route_rules.specs.Request.{action-at, drives, fits, first-drive, drives-all, row-fits};
 use alike::ActionSame;
 use alike::RequestTestSame;
 use alike::has;

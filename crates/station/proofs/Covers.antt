@@ -1,16 +1,13 @@
 -- The tests of cover tell it.
-use mathlib.Core.Path.{_≡_, refl, sym, ap, subst, _∙_}
+use mathlib.Core.Path.{_≡_, refl}
 use mathlib.Core.Bool.{Bool, true, false, cond}
 use mathlib.Core.List.{List}
-use Prim.Native.Nat.{ℕ, _<_}
+use Prim.Native.Nat.{ℕ}
 use native.Mathlib.Omega.{arith}
-use lib.Dec.{eqb}
-use lib.ListN.{length, getD}
+use lib.ListN.{length}
 use Rattle.std.specs.Orderings.{Decides}
-use Rattle.std.specs.shelf.Lists.{Has, At}
+use Rattle.std.specs.shelf.Lists.{Has}
 use Rattle.std.proofs.shelf.Ways.{decides-eqb, decides-and, decides-like}
-use Rattle.firsts.specs.Claims.{all-below}
-use Rattle.firsts.specs.Lists.{any}
 use Rattle.firsts.proofs.Below.{decides-all-below}
 use Rattle.firsts.proofs.Elements.{decides-has, decides-some}
 use Rattle.station.specs.declared.tests.Lock.{Lock}
@@ -21,9 +18,8 @@ use Rattle.station.specs.declared.tests.PointTest.{PointTest}
 use Rattle.station.specs.declared.tests.ReleaseTest.the-variants as release
 use Rattle.station.specs.Station.{Station}
 use Rattle.station.specs.Numbers.{zone-at}
-use Rattle.station.specs.Alike.{same-release}
 use Rattle.station.specs.Paths.{uses, Uses, locks, Locks}
-use Rattle.station.specs.Covers.{users-lock, covers, Covers, guards, Guards, test-guards, request-guards, RequestGuards, point-guards, PointGuards}
+use Rattle.station.specs.Covers.{covers, Covers, guards, Guards, test-guards, request-guards, RequestGuards, point-guards, PointGuards}
 use Rattle.station.proofs.Alike.{decides-release}
 use Rattle.station.proofs.Paths.{decides-uses, decides-locks}
 

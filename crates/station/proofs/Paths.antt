@@ -1,12 +1,11 @@
 -- What a path has, told by the actions that make it.
-use mathlib.Core.Path.{_≡_, refl, sym, ap, _∙_}
-use mathlib.Core.Bool.{Bool, true, false, _||_}
+use mathlib.Core.Path.{_≡_, refl, ap}
+use mathlib.Core.Bool.{Bool, _||_}
 use mathlib.Core.List.{List, [], _∷_}
-use Prim.Native.Nat.{ℕ, _<_}
+use Prim.Native.Nat.{ℕ}
 use lib.Dec.{eqb}
 use lib.ListN.{length}
 use Rattle.std.specs.Orderings.{Decides}
-use Rattle.std.specs.shelf.Lists.{Has}
 use Rattle.std.proofs.shelf.Ways.{decides-eqb, decides-at}
 use Rattle.firsts.specs.Lists.{any}
 use Rattle.firsts.proofs.Below.{decides-any-below}

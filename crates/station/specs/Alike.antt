@@ -1,5 +1,4 @@
 -- Tests that say whether two positions, locks, tests of a row, actions, settings or signals are the same.
-use Prim.Native.Nat.{ℕ}
 use mathlib.Core.Bool.{Bool, true, false, _&&_}
 use lib.Dec.{eqb}
 use Rattle.station.specs.declared.tests.Position.{Position}

@@ -1,9 +1,9 @@
-use mathlib.Core.Path.{_≡_, refl, sym, ap, subst, _∙_}
+use mathlib.Core.Path.{refl, sym, ap, subst, _∙_}
 use borrow.Author.Needs.{needs}
 use Rattle.firsts.specs.Search.{first-from}
 use Rattle.firsts.proofs.Steps.{from-hit, from-miss, from-done}
 use Rattle.station.specs.Station.{station}
-use Rattle.conflicts.specs.Conflicts.{tripled, first-other, Breach-27}
+use Rattle.conflicts.specs.Conflicts.{tripled, Breach-27}
 use Rattle.conflicts.proofs.Agreed.{other-is}
 use Rattle.conflicts.proofs.Told.{first-27}
 use Rattle.conflicts.proofs.conflicts.rule_27.Needs as need

@@ -1,5 +1,5 @@
 use lib.ListN.{length}
-use mathlib.Core.Path.{_≡_, sym, ap, subst, _∙_}
+use mathlib.Core.Path.{sym, ap, subst, _∙_}
 use Rattle.firsts.specs.Claims.{first-pair}
 use Rattle.station.specs.Station.{station}
 use Rattle.lock_rules.specs.Points.{kept-26, Breach-26}

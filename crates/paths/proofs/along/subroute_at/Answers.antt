@@ -1,4 +1,4 @@
-use mathlib.Core.Path.{_≡_, ap, sym, _∙_}
+use mathlib.Core.Path.{ap, sym, _∙_}
 use lib.ListN.{getD}
 use Rattle.paths.proofs.Loops.{path-more, path-end, first-here, later-here, same-here}
 use Rattle.paths.proofs.along.subroute_at.Needs as need

@@ -1,6 +1,5 @@
-use mathlib.Core.Path.{_≡_, refl, sym, ap, _∙_}
+use mathlib.Core.Path.{refl, sym}
 use borrow.Author.Needs.{needs}
-use Rattle.station.specs.Station.{station}
 use Rattle.check.proofs.Verdicts.{sound-none, broken-some}
 use Rattle.check.proofs.checking.Draft.check.Needs as need
 
