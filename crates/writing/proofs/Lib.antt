@@ -1,0 +1,12 @@
+pub mod Words
+pub mod Joints
+pub mod Things
+pub mod Heads
+pub mod Steps
+pub mod Fars
+pub mod States
+pub mod Limits
+pub mod Pairs
+pub mod Lists
+pub mod Listed
+pub mod Parts

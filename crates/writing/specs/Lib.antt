@@ -1,0 +1,5 @@
+pub mod Words
+pub mod Marks
+pub mod Spelling
+pub mod Forms
+pub mod Laws
