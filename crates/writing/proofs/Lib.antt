@@ -10,3 +10,13 @@ pub mod Pairs
 pub mod Lists
 pub mod Listed
 pub mod Parts
+pub mod Fine
+pub mod LayoutRows
+pub mod DataRows
+pub mod Turns
+pub mod Taken
+pub mod Counts
+pub mod Sections
+pub mod Sheets
+pub mod Writings
+pub mod Rows

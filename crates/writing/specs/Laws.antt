@@ -10,13 +10,15 @@ use Rattle.text.specs.Out.{got}
 use Rattle.forms.specs.declared.lists.Listing.{Listing}
 use Rattle.forms.specs.Heads.{Head, head}
 use Rattle.forms.specs.Things.{Spot, Thing, thing-of}
-use Rattle.rows.specs.Rows.{Pair}
+use Rattle.rows.specs.Rows.{Pair, Row}
 use Rattle.steps.specs.Pairs.{a-list}
+use Rattle.sheets.specs.declared.sections.Part.{Part}
+use Rattle.sheets.specs.Sections.{a-turn}
 use Rattle.naming.specs.Unknown.{thing-at}
 use Rattle.writing.specs.Words.{thing-word, Named, head-word, Heads}
 use Rattle.writing.specs.Marks.{Spelt}
-use Rattle.writing.specs.Spelling.{pairs}
-use Rattle.writing.specs.Forms.{Listed}
+use Rattle.writing.specs.Spelling.{pairs, spelling}
+use Rattle.writing.specs.Forms.{Listed, May}
 
 -- a word is read as a thing exactly when it is the word that writes the thing
 abbrev pub Things-law : Spot → Thing Spot → Type 0
@@ -43,3 +45,9 @@ abbrev pub Lists-law : Listing → Ahead → List (Pair Spot) → Ahead → Type
 Lists-law list ts ps us =
     (a-list list ts ≡ got ps us → Spelt (pairs ps) ts us × Listed list ps)
     × (Closes us → Spelt (pairs ps) ts us × Listed list ps → a-list list ts ≡ got ps us)
+
+-- so is a row of a part, after the rows before it
+abbrev pub Rows-law : Part → List (Row Spot) → Ahead → Row Spot → Ahead → Type 0
+Rows-law part rows ts r us =
+    (a-turn part rows ts ≡ got (Some r) us → Spelt (spelling r) ts us × May part rows r)
+    × (Closes us → Spelt (spelling r) ts us × May part rows r → a-turn part rows ts ≡ got (Some r) us)

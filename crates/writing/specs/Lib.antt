@@ -3,3 +3,4 @@ pub mod Marks
 pub mod Spelling
 pub mod Forms
 pub mod Laws
+pub mod Written
