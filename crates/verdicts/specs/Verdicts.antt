@@ -46,3 +46,10 @@ Holds (Accepted m n) s o = done s ≡ o
 Holds (Refused b) s o = done s ≡ o
 Holds (Unread n i) s o = s ≡ empty
 Holds NoMemory s o = s ≡ empty
+
+-- what is so of a text that is read, accepted or not
+abbrev pub When-read : Verdict → Type 0 → Type 0
+When-read (Accepted m n) P = P
+When-read (Refused b) P = P
+When-read (Unread n i) P = Unit {0}
+When-read NoMemory P = Unit {0}

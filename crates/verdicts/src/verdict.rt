@@ -3,13 +3,14 @@ ghost use mathlib.Core.Path.{_≡_};
 ghost use Rattle.station.specs.Station.{station};
 ghost use Rattle.rows.specs.Faults.{code};
 ghost use Rattle.reading.specs.Reading.{reading};
-ghost use Rattle.verdicts.specs.Verdicts.{unread-by, checked, verdict, Judges, Holds};
+ghost use Rattle.verdicts.specs.Verdicts.{unread-by, checked, verdict, Judges, Holds, When-read};
+ghost use Rattle.writing.specs.Written.{Written};
 use check::Breach;
 use check::Draft;
-use reading::read;
 use rows::ReadingFault;
 use station::Tables;
 use std::alloc::Global;
+use writing::read;
 
 #[derive(Clone, Copy)]
 pub enum Verdict {
@@ -46,6 +47,7 @@ fn checked(tables: &Tables, board: &mut [u8; 64]) -> Verdict
 pub fn judge(text: &[u8], heap: Global, tables: &mut Tables, board: &mut [u8; 64]) -> Verdict
     ensures value { λ r. ⌜ Judges r (verdict (now (text .entry))) ⌝ }
     ensures tables { λ r. ⌜ Holds r (station (now (tables .exit))) (reading (now (text .entry))) ⌝ }
+    ensures written { λ r. ⌜ When-read r (Written (now (text .entry)) (station (now (tables .exit)))) ⌝ }
     ensures same { λ _. ⌜ now (board .exit) ≡ now (board .entry) ⌝ }
 {
     match read(text, heap, tables) {

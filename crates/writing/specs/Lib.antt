@@ -1,0 +1,6 @@
+pub mod Words
+pub mod Marks
+pub mod Spelling
+pub mod Forms
+pub mod Laws
+pub mod Written
