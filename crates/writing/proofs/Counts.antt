@@ -13,6 +13,7 @@ use Rattle.text.specs.Tokens.{Item, next-token, next-place}
 use Rattle.text.specs.Ahead.{Ahead, ends, spoilt, token, follow, tokens-within, tokens-from}
 use Rattle.forms.specs.Things.{Spot}
 use Rattle.rows.specs.Rows.{Row}
+use Rattle.writing.specs.Texts.{Sound}
 use Rattle.writing.specs.Marks.{Mark, token-of, Spelt}
 use Rattle.writing.specs.Spelling.{spelling, spellings}
 use Rattle.std.proofs.shelf.Lists.{length-append}
@@ -82,3 +83,8 @@ rows-size (r ∷ rs) =
     let h = rows-size rs in
     let e = length-append (spelling r) (spellings rs) in
     omega arith
+
+-- tokens that marks spell up to the end have no fault
+pub spelt-whole : (ms : List Mark) (ts : Ahead) (n : ℕ) → Spelt ms ts (ends n) → Sound ts
+spelt-whole [] ts n s = subst Sound (sym s) tt
+spelt-whole (m ∷ ms) ts n s = subst Sound (sym (s .2)) (spelt-whole ms (s .1) n (s .3))

@@ -17,13 +17,10 @@ use Rattle.std.proofs.shelf.Lists.{take-append-drop, take-at, drop-at}
 use Rattle.std.proofs.shelf.Tests.{cond-true, cond-false, lt-leb, eqb-true, and-parts, and-from, or-cases, or-left, or-right}
 use Rattle.text.specs.Octets.{letter, digit, plain, naming}
 use Rattle.forms.specs.Words.{is-name, is-joint, after, if-joints, two-joints, then-joints, joined}
+use Rattle.writing.specs.Texts.{only}
 use Rattle.writing.proofs.Words.{after-sound, after-is}
 
--- all octets pass
-abbrev pub only : (ℕ → Bool) → List ℕ → Bool
-only p [] = true
-only p (x ∷ xs) = p x && only p xs
-
+-- octets that pass, one after another
 pub only-append : (p : ℕ → Bool) (xs ys : List ℕ) → only p xs ≡ true → only p ys ≡ true → only p (xs ++ ys) ≡ true
 only-append p [] ys e f = f
 only-append p (x ∷ xs) ys e f = let q = and-parts _ _ e in and-from _ _ (q .0) (only-append p xs ys (q .1) f)

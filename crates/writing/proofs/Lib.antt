@@ -20,3 +20,7 @@ pub mod Sections
 pub mod Sheets
 pub mod Writings
 pub mod Rows
+pub mod Runs
+pub mod Tokens
+pub mod Fronts
+pub mod Lexing

@@ -1,8 +1,9 @@
--- The laws of words and of lists of pairs.
+-- The laws of tokens, words and lists of pairs.
 use mathlib.Core.Path.{_≡_, refl, sym, ap, _∙_}
 use mathlib.Core.Bool.{Bool, true, false, not}
 use mathlib.Core.List.{List}
 use Prim.Native.Nat.{ℕ}
+use native.Mathlib.Omega.{arith}
 use lib.Chars.{codes}
 use Rattle.std.specs.shelf.Text.{sameBytes}
 use Rattle.std.proofs.shelf.Equals.{sameBytes-decides}
@@ -13,11 +14,15 @@ use Rattle.forms.specs.declared.lists.Listing.{Listing}
 use Rattle.forms.specs.Heads.{Head, head}
 use Rattle.forms.specs.Things.{Spot, Thing, thing-of}
 use Rattle.rows.specs.Rows.{Pair}
-use Rattle.writing.specs.Laws.{Things-law, Heads-law, Closes, Lists-law}
+use Rattle.writing.specs.Laws.{Tokens-law, Things-law, Heads-law, Closes, Lists-law}
+use Rattle.writing.proofs.Lexing.{sets-sound, sets-is}
 use Rattle.writing.proofs.Things.{thing-sound, thing-is}
 use Rattle.writing.proofs.Heads.{head-sound, head-is}
 use Rattle.writing.proofs.Lists.{Closed, list-sound}
 use Rattle.writing.proofs.Listed.{list-is}
+
+pub tokens-law : (t : List ℕ) (ts : Ahead) → Tokens-law t ts
+tokens-law t ts = (λ e s. sets-sound t ts 0 t refl (omega arith) e s, λ s. sets-is t ts 0 t refl (omega arith) s)
 
 pub things-law : (w : Spot) (th : Thing Spot) → Things-law w th
 things-law w th = (thing-sound w th, λ h. ap thing-of (h .0) ∙ thing-is th (h .1))

@@ -15,8 +15,9 @@ use Rattle.forms.specs.Words.{is-name, is-joint, prefixed, bracketed, joined}
 use Rattle.forms.specs.Things.{Spot, Thing, segment, point, route, zone, subroute, try, name-at, segment-of, point-of, joint-of, thing-of}
 use Rattle.naming.specs.Unknown.{thing-at}
 use Rattle.writing.specs.Words.{thing-word, zone-word, subroute-word, Named}
+use Rattle.writing.specs.Texts.{only}
 use Rattle.writing.proofs.Words.{prefixed-sound, prefixed-is, bracketed-sound, bracketed-is}
-use Rattle.writing.proofs.Joints.{only, joined-sound, joined-is, joints-clean}
+use Rattle.writing.proofs.Joints.{joined-sound, joined-is, joints-clean}
 
 -- words that begin with different octets are not the same
 apart : (a b : ℕ) (xs ys : List ℕ) → eqb a b ≡ false → a ∷ xs ≡ b ∷ ys → ⊥

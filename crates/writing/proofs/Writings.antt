@@ -10,6 +10,7 @@ use Rattle.std.specs.declared.option.Option.the-variants.{Some, None}
 use Rattle.std.specs.declared.result.Result.{Result}
 use Rattle.std.specs.declared.result.Result.the-variants.{Ok, Err}
 use Rattle.std.proofs.shelf.Tests.{cond-false}
+use Rattle.text.specs.Ahead.{ends, tokens-from}
 use Rattle.rows.specs.declared.faults.ReadingFault.{ReadingFault}
 use Rattle.rows.specs.declared.faults.ReadingFault.the-variants.{Size, Row, Undeclared, Incomplete, Memory}
 use Rattle.rows.specs.Faults.{code}
@@ -22,7 +23,11 @@ use Rattle.naming.specs.Missing.{incomplete}
 use Rattle.station.specs.Station.{Station}
 use Rattle.reading.specs.Reading.{judged-by, judged, reading, Settles}
 use Rattle.reading.specs.Tables.{tables-of}
+use Rattle.writing.specs.Marks.{Spelt}
+use Rattle.writing.specs.Spelling.{whole as spelling}
 use Rattle.writing.specs.Written.{Written, Reading-law, Where-read, Reads-as}
+use Rattle.writing.proofs.Counts.{spelt-whole}
+use Rattle.writing.proofs.Parts.{tokens-law}
 use Rattle.writing.proofs.Sheets.{Rows, sheet-sound, sheet-is}
 
 -- rows that make a station use no undeclared name and lack no row
@@ -52,9 +57,11 @@ module _ (t : List ℕ) (s : Station) where
       let r = sheet-sound t (p .0) (p .1) in
       let m : Makes (r .layout ++ r .rest) s = subst (λ rows. Makes rows s) (r .all-of) (p .2) in
       record {
+        tokens = tokens-from t 0;
         layout = r .layout;
         data-rows = r .rest;
         few = r .few;
+        set = tokens-law t (tokens-from t 0) .0 refl (spelt-whole (spelling (r .layout) (r .rest)) (tokens-from t 0) (length t) (r .spelt));
         spelt = r .spelt;
         laid = r .laid;
         listed = r .listed;
@@ -66,7 +73,7 @@ module _ (t : List ℕ) (s : Station) where
   written-read : Written t s → reading t ≡ done s
   written-read w =
       let all : Sofar = w .layout ++ w .data-rows in
-      let r : Rows t all = record { layout = w .layout; rest = w .data-rows; few = w .few; spelt = w .spelt; laid = w .laid; listed = w .listed; all-of = refl } in
+      let r : Rows t all = record { layout = w .layout; rest = w .data-rows; few = w .few; spelt = subst (λ ts. Spelt (spelling (w .layout) (w .data-rows)) ts (ends (length t))) (sym (tokens-law t (w .tokens) .1 (w .set))) (w .spelt); laid = w .laid; listed = w .listed; all-of = refl } in
       ap (judged (length t)) (sheet-is t all r) ∙ judged-is (length t) all s (w .declared, w .complete, w .says)
 
   pub reading-law : Reading-law t s

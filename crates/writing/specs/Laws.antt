@@ -5,7 +5,7 @@ use Prim.Native.Nat.{ℕ}
 use lib.Chars.{codes}
 use Rattle.std.specs.declared.option.Option.the-variants.{Some}
 use Rattle.text.specs.Tokens.{star, comma, word}
-use Rattle.text.specs.Ahead.{Ahead, ends, spoilt, token}
+use Rattle.text.specs.Ahead.{Ahead, ends, spoilt, token, tokens-from}
 use Rattle.text.specs.Out.{got}
 use Rattle.forms.specs.declared.lists.Listing.{Listing}
 use Rattle.forms.specs.Heads.{Head, head}
@@ -16,9 +16,14 @@ use Rattle.sheets.specs.declared.sections.Part.{Part}
 use Rattle.sheets.specs.Sections.{a-turn}
 use Rattle.naming.specs.Unknown.{thing-at}
 use Rattle.writing.specs.Words.{thing-word, Named, head-word, Heads}
+use Rattle.writing.specs.Texts.{Sets, Sound}
 use Rattle.writing.specs.Marks.{Spelt}
 use Rattle.writing.specs.Spelling.{pairs, spelling}
 use Rattle.writing.specs.Forms.{Listed, May}
+
+-- tokens without a fault are those of a text exactly when it is made of them and of blanks
+abbrev pub Tokens-law : List ℕ → Ahead → Type 0
+Tokens-law t ts = (tokens-from t 0 ≡ ts → Sound ts → Sets 0 t ts) × (Sets 0 t ts → tokens-from t 0 ≡ ts)
 
 -- a word is read as a thing exactly when it is the word that writes the thing
 abbrev pub Things-law : Spot → Thing Spot → Type 0

@@ -1,4 +1,5 @@
 pub mod Words
+pub mod Texts
 pub mod Marks
 pub mod Spelling
 pub mod Forms

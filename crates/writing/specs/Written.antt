@@ -7,7 +7,7 @@ use lib.ListN.{length}
 use Rattle.std.specs.declared.option.Option.the-variants.{None}
 use Rattle.std.specs.declared.result.Result.{Result}
 use Rattle.std.specs.declared.result.Result.the-variants.{Ok, Err}
-use Rattle.text.specs.Ahead.{ends, tokens-from}
+use Rattle.text.specs.Ahead.{Ahead, ends}
 use Rattle.forms.specs.Things.{Spot}
 use Rattle.rows.specs.declared.faults.ReadingFault.{ReadingFault}
 use Rattle.rows.specs.declared.faults.ReadingFault.the-variants.{Memory}
@@ -20,18 +20,21 @@ use Rattle.naming.specs.Missing.{incomplete}
 use Rattle.station.specs.Station.{Station}
 use Rattle.reading.specs.Reading.{reading}
 use Rattle.reading.specs.Tables.{tables-of}
+use Rattle.writing.specs.Texts.{Sets}
 use Rattle.writing.specs.Marks.{Spelt}
 use Rattle.writing.specs.Spelling.{whole}
 use Rattle.writing.specs.Forms.{Follow}
 
--- The text is short enough, and its tokens up to its end spell rows of the layout, `*DATA` and rows of the data.
--- Each row is well formed and fresh after those before it, every name that is used is declared, no row is
--- missing, and the station is what the rows say.
+-- The text is short enough, and is made of blanks and of tokens that spell rows of the layout, `*DATA` and rows
+-- of the data, up to its end. Each row is well formed and fresh after those before it, every name that is used is
+-- declared, no row is missing, and the station is what the rows say.
 pub record Written (t : List ℕ) (s : Station) : Type 0 where
+  pub tokens : Ahead
   pub layout : List (Row Spot)
   pub data-rows : List (Row Spot)
   pub few : length t ≤ 32768
-  pub spelt : Spelt (whole layout data-rows) (tokens-from t 0) (ends (length t))
+  pub set : Sets 0 t tokens
+  pub spelt : Spelt (whole layout data-rows) tokens (ends (length t))
   pub laid : Follow Layout [] layout
   pub listed : Follow Data layout data-rows
   pub declared : first-unknown (index-of (layout ++ data-rows)) (layout ++ data-rows) ≡ None

@@ -8,9 +8,16 @@ ghost use Rattle.forms.specs.Things.{Spot, Thing};
 ghost use Rattle.rows.specs.Rows.{Pair, Row};
 ghost use Rattle.sheets.specs.declared.sections.Part.{Part};
 ghost use Rattle.station.specs.Station.{Station};
-ghost use Rattle.writing.specs.Laws.{Things-law, Heads-law, Lists-law, Rows-law};
+ghost use Rattle.writing.specs.Laws.{Tokens-law, Things-law, Heads-law, Lists-law, Rows-law};
 ghost use Rattle.writing.specs.Written.{Reading-law};
 ghost use Prim.Native.Nat.{ℕ};
+
+// A text has these tokens exactly when it is made of them and of blanks.
+pub fn texts_of_tokens() -> u8
+    ensures { λ _. ⌜ ((text : List ℕ) (ts : Ahead) → Tokens-law text ts) ⌝ }
+{
+    0
+}
 
 // A word names a thing exactly when it is the word that writes the thing.
 pub fn words_of_things() -> u8
