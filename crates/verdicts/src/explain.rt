@@ -10,7 +10,7 @@ use std::fmt;
 // What the rule that a breach is of wants.
 fn rule_text(breach: Breach) -> &'static str {
     match breach {
-        Breach::Joint(_) => "a joint parts two different segments",
+        Breach::Joint(_) => "a joint has not the same segment on both sides",
         Breach::Way(_) => {
             "a way joins two different joints of its segment and sets each of the segment's points once, and no other"
         }
@@ -24,7 +24,7 @@ fn rule_text(breach: Breach) -> &'static str {
             "a route's path has a subroute, runs from each end to the next start, and comes into no segment twice"
         }
         Breach::Signals(_) => {
-            "a route begins at a signal, passes none on its way, and ends at a signal onward, outside or at a buffer stop"
+            "a route begins at a signal, has none in its direction at an inner joint, and ends at a signal onward, outside or at a buffer stop"
         }
         Breach::Request(_) => {
             "a request tests its own route's xs, sets its own route only, drives each point once at most and under the cf test of that side, and drives the points of its path as its ways lie"
