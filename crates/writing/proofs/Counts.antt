@@ -1,7 +1,7 @@
 -- A text has no more tokens than octets, and its tokens end at its length.
-use mathlib.Core.Path.{_≡_, refl, sym, ap, _∙_, subst}
-use mathlib.Core.List.{List, [], _∷_, _++_}
-use Prim.Native.Nat.{ℕ, zero, suc, _+_, _-_, _≤_, _<_}
+use mathlib.Core.Path.{_≡_, refl, sym, ap, subst}
+use mathlib.Core.List.{List, [], _∷_}
+use Prim.Native.Nat.{ℕ, zero, suc, _+_, _-_, _≤_}
 use native.Mathlib.Omega.{arith}
 use lib.ListN.{length}
 use Rattle.std.specs.declared.option.Option.{Option}
@@ -14,7 +14,7 @@ use Rattle.text.specs.Ahead.{Ahead, ends, spoilt, token, follow, tokens-within,
 use Rattle.forms.specs.Things.{Spot}
 use Rattle.rows.specs.Rows.{Row}
 use Rattle.writing.specs.Texts.{Sound}
-use Rattle.writing.specs.Marks.{Mark, token-of, Spelt}
+use Rattle.writing.specs.Marks.{Mark, Spelt}
 use Rattle.writing.specs.Spelling.{spelling, spellings}
 use Rattle.std.proofs.shelf.Lists.{length-append}
 

@@ -1,10 +1,10 @@
 -- Rows of the data are read exactly as they are written.
 use mathlib.Core.Path.{_≡_, refl, sym, ap, _∙_, subst}
-use mathlib.Core.Bool.{Bool, true, false, cond}
+use mathlib.Core.Bool.{false, cond}
 use mathlib.Core.List.{List, [], _∷_, _++_}
 use Prim.Native.Nat.{ℕ}
 use lib.Chars.{codes}
-use Rattle.text.specs.Tokens.{Item, word}
+use Rattle.text.specs.Tokens.{word}
 use Rattle.text.specs.Ahead.{Ahead, token}
 use Rattle.text.specs.Out.{Out, got, bad, bind}
 use Rattle.std.proofs.shelf.Tests.{cond-false}
@@ -19,7 +19,7 @@ use Rattle.rows.specs.Filters.{move-kind, full, known}
 use Rattle.rows.specs.Rows.{Pair, Row, request-row, activation-row, move-row, release-row, zone-row}
 use Rattle.steps.specs.Words.{a-keyword}
 use Rattle.steps.specs.Pairs.{a-list}
-use Rattle.sheets.specs.declared.sections.Part.the-variants.{Layout, Data}
+use Rattle.sheets.specs.declared.sections.Part.the-variants.{Data}
 use Rattle.sheets.specs.Layout.{Sofar}
 use Rattle.sheets.specs.Data.{a-request-row, an-activation-row, a-move-row, a-release-row, a-zone-row}
 use Rattle.writing.specs.Marks.{Spelt, says}

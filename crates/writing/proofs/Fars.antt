@@ -1,18 +1,17 @@
 -- What lies beyond a joint is read exactly as it is written.
-use mathlib.Core.Path.{_≡_, refl, sym, ap, _∙_, subst}
+use mathlib.Core.Path.{_≡_, refl, ap, _∙_, subst}
 use mathlib.Core.Bool.{Bool, true, false, cond}
-use mathlib.Core.List.{List, [], _∷_, _++_}
-use Prim.Native.Nat.{ℕ, _+_}
+use mathlib.Core.List.{_++_}
+use Prim.Native.Nat.{ℕ}
 use native.Mathlib.Omega.{arith}
 use lib.Chars.{codes}
 use Rattle.std.specs.shelf.Text.{sameBytes}
 use Rattle.std.specs.declared.option.Option.{Option}
 use Rattle.std.specs.declared.option.Option.the-variants.{Some, None}
 use Rattle.std.proofs.shelf.Equals.{sameBytes-decides}
-use Rattle.text.specs.Tokens.{Item, word}
+use Rattle.text.specs.Tokens.{word}
 use Rattle.text.specs.Ahead.{Ahead, token}
-use Rattle.text.specs.Out.{Out, got, bad, bind}
-use Rattle.forms.specs.Words.{is-name}
+use Rattle.text.specs.Out.{got}
 use Rattle.forms.specs.Things.{Spot, name-at, segment-of}
 use Rattle.rows.specs.Rows.{Far, far-segment, far-outside, far-buffer}
 use Rattle.steps.specs.Words.{a-word, as-far, a-far}

@@ -1,11 +1,11 @@
 -- What is to be shown of a row that was read, and how spellings are parted and joined.
-use mathlib.Core.Path.{_≡_, refl, sym, ap, _∙_, subst}
-use mathlib.Core.Bool.{Bool, true, false, cond}
+use mathlib.Core.Path.{_≡_, refl, sym, subst}
+use mathlib.Core.Bool.{true}
 use mathlib.Core.List.{List, [], _∷_, _++_}
 use Prim.Native.Nat.{ℕ}
 use Rattle.text.specs.Tokens.{Item}
-use Rattle.text.specs.Ahead.{Ahead, token}
-use Rattle.text.specs.Out.{Out, got, bad, bind}
+use Rattle.text.specs.Ahead.{Ahead}
+use Rattle.text.specs.Out.{got}
 use Rattle.forms.specs.Things.{Spot}
 use Rattle.rows.specs.Rows.{Row}
 use Rattle.sheets.specs.declared.sections.Part.{Part}

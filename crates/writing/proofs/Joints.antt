@@ -1,14 +1,14 @@
 -- Two joints are found in a word exactly where it is the front, the one, `_` and the other.
-use mathlib.Core.Logic.{_⊎_, inl, inr}
+use mathlib.Core.Logic.{inl, inr}
 use mathlib.Core.Path.{_≡_, refl, sym, ap, _∙_}
 use mathlib.Core.Bool.{Bool, true, false, cond, not, _&&_}
 use mathlib.Core.List.{List, [], _∷_, _++_}
-use Prim.Native.Nat.{ℕ, _+_, _-_, _≤_, _<_, suc}
+use Prim.Native.Nat.{ℕ, _+_, _<_, suc}
 use native.Mathlib.Omega.{arith}
 use native.Mathlib.Numerals.{one-add}
 use lib.Chars.{codes}
 use lib.Dec.{leb, ltb, eqb}
-use lib.ListN.{length, getD, take, drop, length-append}
+use lib.ListN.{length, take, drop, length-append}
 use Rattle.std.specs.shelf.Lists.{leading}
 use Rattle.std.specs.shelf.Text.{sameBytes}
 use Rattle.std.specs.declared.option.Option.{Option}
@@ -16,7 +16,7 @@ use Rattle.std.specs.declared.option.Option.the-variants.{Some, None}
 use Rattle.std.proofs.shelf.Lists.{take-append-drop, take-at, drop-at}
 use Rattle.std.proofs.shelf.Tests.{cond-true, cond-false, lt-leb, eqb-true, and-parts, and-from, or-cases, or-left, or-right}
 use Rattle.text.specs.Octets.{letter, digit, plain, naming}
-use Rattle.forms.specs.Words.{is-name, is-joint, after, if-joints, two-joints, then-joints, joined}
+use Rattle.forms.specs.Words.{is-joint, after, if-joints, two-joints, then-joints, joined}
 use Rattle.writing.specs.Texts.{only}
 use Rattle.writing.proofs.Words.{after-sound, after-is}
 

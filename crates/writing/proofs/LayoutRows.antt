@@ -1,10 +1,10 @@
 -- Rows of the layout are read exactly as they are written.
-use mathlib.Core.Path.{_≡_, refl, sym, ap, _∙_, subst}
-use mathlib.Core.Bool.{Bool, true, false, cond}
-use mathlib.Core.List.{List, [], _∷_, _++_}
+use mathlib.Core.Path.{_≡_, refl, ap, _∙_}
+use mathlib.Core.Bool.{cond}
+use mathlib.Core.List.{List, []}
 use Prim.Native.Nat.{ℕ}
-use Rattle.text.specs.Tokens.{Item, word}
-use Rattle.text.specs.Ahead.{Ahead, token}
+use Rattle.text.specs.Tokens.{word}
+use Rattle.text.specs.Ahead.{Ahead}
 use Rattle.text.specs.Out.{Out, got, bad, bind}
 use Rattle.std.proofs.shelf.Tests.{cond-false}
 use Rattle.forms.specs.declared.lists.Listing.the-variants.{Settings}
@@ -15,7 +15,7 @@ use Rattle.rows.specs.Filters.{full, known, crowded}
 use Rattle.rows.specs.Rows.{Pair, Far, Row, segment-row, joint-row, point-row, way-row, signal-row}
 use Rattle.steps.specs.Words.{a-segment, a-joint, a-point, a-far}
 use Rattle.steps.specs.Pairs.{a-list}
-use Rattle.sheets.specs.declared.sections.Part.the-variants.{Layout, Data}
+use Rattle.sheets.specs.declared.sections.Part.the-variants.{Layout}
 use Rattle.sheets.specs.Layout.{Sofar, a-segment-row, a-joint-row, a-point-row, a-way-row, a-signal-row}
 use Rattle.writing.specs.Marks.{Spelt}
 use Rattle.writing.specs.Spelling.{body}

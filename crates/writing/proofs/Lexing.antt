@@ -1,8 +1,8 @@
 -- A text has these tokens exactly when it is made of them and of blanks.
 use mathlib.Core.Path.{_≡_, refl, sym, ap, _∙_, subst}
-use mathlib.Core.Bool.{Bool, true, false, cond}
-use mathlib.Core.List.{List, [], _∷_, _++_, append-nil}
-use Prim.Native.Nat.{ℕ, zero, suc, _+_, _-_, _≤_, _<_}
+use mathlib.Core.Bool.{true}
+use mathlib.Core.List.{List, [], _++_, append-nil}
+use Prim.Native.Nat.{ℕ, _+_, _≤_}
 use native.Mathlib.Omega.{arith}
 use lib.ListN.{length, take, drop}
 use Rattle.std.specs.shelf.Lists.{leading}
@@ -14,10 +14,10 @@ use Rattle.std.proofs.shelf.Lists.{length-append, length-drop, length-take-le, 
 use Rattle.std.proofs.shelf.Sums.{leading-le-length}
 use Rattle.text.specs.declared.faults.WordFault.{WordFault}
 use Rattle.text.specs.Octets.{blank}
-use Rattle.text.specs.Tokens.{Item, next-token, next-place}
+use Rattle.text.specs.Tokens.{Item, next-place}
 use Rattle.text.specs.Ahead.{Ahead, ends, spoilt, token, follow, tokens-from}
 use Rattle.text.proofs.Steps.{tokens-step}
-use Rattle.writing.specs.Texts.{only, Stops, octets-of, offset-of, Whole, Sets, Sound}
+use Rattle.writing.specs.Texts.{only, octets-of, offset-of, Sets, Sound}
 use Rattle.writing.proofs.Runs.{leading-run, leading-none, only-take, stops-after}
 use Rattle.writing.proofs.Tokens.{token-on, width, token-at-is, end-at-is}
 use Rattle.writing.proofs.Fronts.{none-on, found, seen}

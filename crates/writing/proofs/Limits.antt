@@ -1,20 +1,19 @@
 -- A list keeps its limits exactly when no pair of it was one too many.
-use mathlib.Core.Path.{_≡_, refl, sym, ap, _∙_}
+use mathlib.Core.Path.{_≡_, refl, ap, _∙_}
 use mathlib.Core.Bool.{Bool, true, false, cond, _&&_}
 use mathlib.Core.List.{List, [], _∷_, _++_}
-use mathlib.Core.Logic.{_⊎_, inl, inr}
 use Prim.Native.Nat.{ℕ, _+_, _≤_, _<_, suc}
 use native.Mathlib.Omega.{arith}
 use lib.Dec.{leb}
 use lib.ListN.{length, length-append}
 use Rattle.std.proofs.shelf.Lists.{length-push}
-use Rattle.std.proofs.shelf.Sums.{sumBy-append, sumBy-cons, sumBy-push}
-use Rattle.std.proofs.shelf.Tests.{or-from, or-parts, and-left, and-right, lt-leb, leb-false, and-cases}
+use Rattle.std.proofs.shelf.Sums.{sumBy-append, sumBy-cons}
+use Rattle.std.proofs.shelf.Tests.{or-from, or-parts, lt-leb, leb-false}
 use Rattle.forms.specs.declared.lists.Listing.{Listing}
 use Rattle.forms.specs.Lists.{most}
-use Rattle.forms.specs.Things.{Spot, Thing}
+use Rattle.forms.specs.Things.{Spot}
 use Rattle.rows.specs.Rows.{Pair}
-use Rattle.steps.specs.Pairs.{runs, in-path, subroutes, path-full, too-many}
+use Rattle.steps.specs.Pairs.{runs, in-path, subroutes, too-many}
 use Rattle.writing.specs.Forms.{Within}
 
 abbrev one-if : Bool → ℕ

@@ -1,28 +1,24 @@
 -- A list of pairs that is written is read, where nothing that could go on with it follows.
 use mathlib.Core.Path.{_≡_, refl, sym, ap, _∙_, subst}
-use mathlib.Core.Bool.{Bool, true, false, cond, not}
+use mathlib.Core.Bool.{Bool, true, false, not}
 use mathlib.Core.List.{List, [], _∷_, _++_, append-assoc}
-use Prim.Native.Nat.{ℕ, zero, suc, _+_, _≤_, _<_}
+use Prim.Native.Nat.{ℕ, zero, suc, _+_}
 use native.Mathlib.Omega.{arith}
 use lib.Chars.{codes}
 use lib.ListN.{length, length-append}
 use Rattle.std.specs.shelf.Text.{sameBytes}
-use Rattle.std.specs.declared.option.Option.{Option}
-use Rattle.std.specs.declared.option.Option.the-variants.{Some, None}
-use Rattle.std.proofs.shelf.Equals.{sameBytes-decides}
 use Rattle.std.proofs.shelf.Lists.{length-push}
-use Rattle.text.specs.Tokens.{Item, star, comma, word}
-use Rattle.text.specs.Ahead.{Ahead, ends, spoilt, token}
-use Rattle.text.specs.Out.{Out, got, bad, bind, a-comma}
+use Rattle.text.specs.Tokens.{word}
+use Rattle.text.specs.Ahead.{Ahead, token}
+use Rattle.text.specs.Out.{got, a-comma}
 use Rattle.forms.specs.declared.lists.Listing.{Listing}
-use Rattle.forms.specs.Lists.{most}
 use Rattle.forms.specs.Things.{Spot, Thing, segment, point, route, zone, subroute}
 use Rattle.rows.specs.Rows.{Pair}
 use Rattle.naming.specs.Unknown.{thing-at}
 use Rattle.steps.specs.Pairs.{a-pair, a-list-begins, pairs-from, a-list}
 use Rattle.steps.proofs.Turns.{most-bound, pairs-end}
 use Rattle.writing.specs.Marks.{Spelt}
-use Rattle.writing.specs.Spelling.{pairs, more-pairs}
+use Rattle.writing.specs.Spelling.{pairs}
 use Rattle.writing.specs.Words.{thing-word}
 use Rattle.writing.specs.Forms.{All-stand, Within, Listed}
 use Rattle.writing.proofs.Limits.{within-room}

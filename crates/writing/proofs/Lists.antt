@@ -1,27 +1,25 @@
 -- A list of pairs is read exactly as it is written.
 use mathlib.Core.Path.{_≡_, refl, sym, ap, _∙_, subst}
-use mathlib.Core.Bool.{Bool, true, false, cond, not}
+use mathlib.Core.Bool.{Bool, true, false}
 use mathlib.Core.List.{List, [], _∷_, _++_, append-assoc}
-use Prim.Native.Nat.{ℕ, zero, suc, _+_, _≤_, _<_}
+use Prim.Native.Nat.{ℕ, zero, suc, _+_, _≤_}
 use native.Mathlib.Omega.{arith}
-use lib.ListN.{length, length-append}
+use lib.ListN.{length}
 use Rattle.std.proofs.shelf.Lists.{length-push}
-use Rattle.text.specs.Tokens.{Item, star, comma, word}
+use Rattle.text.specs.Tokens.{star, comma, word}
 use Rattle.text.specs.Ahead.{Ahead, ends, spoilt, token}
-use Rattle.text.specs.Out.{Out, got, bad, bind, a-comma}
+use Rattle.text.specs.Out.{Out, got, bind, a-comma}
 use Rattle.forms.specs.declared.lists.Listing.{Listing}
-use Rattle.forms.specs.Lists.{most}
 use Rattle.forms.specs.Things.{Spot}
 use Rattle.rows.specs.Rows.{Pair}
-use Rattle.naming.specs.Unknown.{thing-at}
 use Rattle.steps.specs.Pairs.{subroutes, a-pair, a-list-begins, pairs-from, a-list}
 use Rattle.steps.proofs.Turns.{most-bound, pairs-end}
 use Rattle.writing.specs.Marks.{Spelt}
-use Rattle.writing.specs.Spelling.{pairs, more-pairs}
+use Rattle.writing.specs.Spelling.{pairs}
 use Rattle.writing.specs.Forms.{All-stand, Within, Listed}
-use Rattle.writing.proofs.Limits.{within-more, within-room}
-use Rattle.writing.proofs.Pairs.{Reads, pair-sound, pair-is}
-use Rattle.writing.proofs.Steps.{bind-got, bind-is}
+use Rattle.writing.proofs.Limits.{within-more}
+use Rattle.writing.proofs.Pairs.{Reads, pair-sound}
+use Rattle.writing.proofs.Steps.{bind-got}
 
 comma-yes : (ts us : Ahead) → a-comma ts ≡ got true us → (i : ℕ) × (ts ≡ token (comma i) us)
 comma-yes (ends n) us e = let z : _≡_ {A = Bool} true false = cc in let y : _≡_ {A = ℕ} 0 1 = cc in absurd (omega arith)

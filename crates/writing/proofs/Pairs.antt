@@ -1,14 +1,14 @@
 -- A pair is read exactly as it is written.
-use mathlib.Core.Path.{_≡_, refl, sym, ap, _∙_, subst}
+use mathlib.Core.Path.{_≡_, refl, ap, _∙_, subst}
 use mathlib.Core.Bool.{Bool, true, false, cond}
-use mathlib.Core.List.{List, [], _∷_, _++_}
-use Prim.Native.Nat.{ℕ, _+_}
+use mathlib.Core.List.{List}
+use Prim.Native.Nat.{ℕ}
 use native.Mathlib.Omega.{arith}
 use Rattle.std.specs.declared.option.Option.{Option}
 use Rattle.std.specs.declared.option.Option.the-variants.{Some, None}
 use Rattle.std.proofs.shelf.Tests.{cond-true, cond-false}
-use Rattle.text.specs.Tokens.{Item, star, comma, word}
-use Rattle.text.specs.Ahead.{Ahead, ends, spoilt, token}
+use Rattle.text.specs.Tokens.{word}
+use Rattle.text.specs.Ahead.{Ahead, token}
 use Rattle.text.specs.Out.{Out, got, bad, bind}
 use Rattle.forms.specs.declared.states.State.{State}
 use Rattle.forms.specs.declared.lists.Listing.{Listing}
@@ -19,10 +19,10 @@ use Rattle.rows.specs.Rows.{Pair}
 use Rattle.naming.specs.Unknown.{thing-at}
 use Rattle.steps.specs.Words.{a-word}
 use Rattle.steps.specs.Pairs.{too-many, as-pair, pair-of, a-pair}
-use Rattle.writing.specs.Words.{thing-word, Named}
-use Rattle.writing.specs.Forms.{Among, Stands}
+use Rattle.writing.specs.Words.{thing-word}
+use Rattle.writing.specs.Forms.{Stands}
 use Rattle.writing.proofs.Things.{thing-sound, thing-is}
-use Rattle.writing.proofs.Steps.{bind-got, bind-is, word-sound}
+use Rattle.writing.proofs.Steps.{bind-got, word-sound}
 use Rattle.writing.proofs.States.{picked-sound, picked-is, among-admits}
 
 module _ (list : Listing) (taken : List (Pair Spot)) where

@@ -1,24 +1,24 @@
 -- A part is read exactly as its rows are written, one after another.
 use mathlib.Core.Path.{_≡_, refl, sym, ap, _∙_, subst}
-use mathlib.Core.Bool.{Bool, true, false, cond}
+use mathlib.Core.Bool.{Bool, cond}
 use mathlib.Core.List.{List, [], _∷_, _++_, append-assoc, append-nil}
-use Prim.Native.Nat.{ℕ, zero, suc, _+_, _≤_, _<_}
+use Prim.Native.Nat.{ℕ, zero, suc, _<_}
 use native.Mathlib.Omega.{arith}
 use lib.ListN.{length}
 use Rattle.std.specs.declared.option.Option.{Option}
 use Rattle.std.specs.declared.option.Option.the-variants.{Some, None}
-use Rattle.text.specs.Tokens.{Item, star}
-use Rattle.text.specs.Ahead.{Ahead, ends, token}
+use Rattle.text.specs.Tokens.{star}
+use Rattle.text.specs.Ahead.{Ahead, token}
 use Rattle.text.specs.Out.{Out, got, bad, bind}
 use Rattle.forms.specs.Things.{Spot}
 use Rattle.rows.specs.Rows.{Row}
 use Rattle.sheets.specs.declared.sections.Part.{Part}
 use Rattle.sheets.specs.declared.sections.Part.the-variants.{Layout, Data}
 use Rattle.sheets.specs.Layout.{Sofar}
-use Rattle.sheets.specs.Sections.{a-turn, with-row, one-more, section}
+use Rattle.sheets.specs.Sections.{a-turn, with-row, section}
 use Rattle.writing.specs.Marks.{Spelt}
 use Rattle.writing.specs.Spelling.{spelling, spellings}
-use Rattle.writing.specs.Forms.{May, Follow}
+use Rattle.writing.specs.Forms.{Follow}
 use Rattle.writing.proofs.Fine.{spelt-join, spelt-part}
 use Rattle.writing.proofs.Steps.{bind-got, bind-is}
 use Rattle.writing.proofs.Lists.{Closed}

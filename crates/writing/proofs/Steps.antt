@@ -1,27 +1,24 @@
 -- What steps over the tokens come to, and the tokens that they pass.
 use mathlib.Core.Path.{_≡_, refl, sym, ap, _∙_, subst}
 use mathlib.Core.Bool.{Bool, true, false, cond}
-use mathlib.Core.List.{List, [], _∷_, _++_}
-use Prim.Native.Nat.{ℕ, _+_, _≤_, _<_}
+use mathlib.Core.List.{List, _++_}
+use Prim.Native.Nat.{ℕ}
 use native.Mathlib.Omega.{arith}
 use lib.Chars.{codes}
 use Rattle.std.specs.shelf.Text.{sameBytes}
 use Rattle.std.specs.declared.option.Option.{Option}
 use Rattle.std.specs.declared.option.Option.the-variants.{Some, None}
 use Rattle.std.proofs.shelf.Equals.{sameBytes-decides}
-use Rattle.std.proofs.shelf.Tests.{cond-true, cond-false}
-use Rattle.text.specs.Tokens.{Item, star, comma, word}
+use Rattle.std.proofs.shelf.Tests.{cond-true}
+use Rattle.text.specs.Tokens.{star, comma, word}
 use Rattle.text.specs.Ahead.{Ahead, ends, spoilt, token}
 use Rattle.text.specs.Out.{Out, got, bad, bind}
 use Rattle.forms.specs.Words.{is-name, is-joint, prefixed}
-use Rattle.forms.specs.Things.{Spot, name-at, segment-of, point-of, joint-of}
-use Rattle.rows.specs.Rows.{Far, far-segment, far-outside, far-buffer}
-use Rattle.steps.specs.Words.{a-word, a-keyword, formed, a-segment, a-joint, a-point, as-far, a-far}
+use Rattle.forms.specs.Things.{Spot, name-at, joint-of}
+use Rattle.steps.specs.Words.{a-word, a-keyword, formed, a-segment, a-joint, a-point}
 use Rattle.writing.specs.Marks.{token-of}
-use Rattle.writing.specs.Spelling.{segment-mark, point-mark, joint-mark, far-mark}
-use Rattle.writing.specs.Forms.{Far-named}
+use Rattle.writing.specs.Spelling.{segment-mark, point-mark, joint-mark}
 use Rattle.writing.proofs.Words.{prefixed-sound, prefixed-is}
-use Rattle.writing.proofs.Things.{prefixed-miss}
 
 -- the first step of two came to something, and so did the second
 pub bind-got : {A B : Type 0} (o : Out A) (f : A → Ahead → Out B) (b : B) (vs : Ahead) → bind o f ≡ got b vs → (a : A) × (us : Ahead) × (o ≡ got a us) × (f a us ≡ got b vs)

@@ -1,17 +1,13 @@
 -- A row as it is written is what a turn reads.
-use mathlib.Core.Path.{_≡_, refl, sym, ap, _∙_, subst}
-use mathlib.Core.Bool.{Bool, true, false, cond}
-use mathlib.Core.List.{List, [], _∷_, _++_}
-use Prim.Native.Nat.{ℕ, _+_}
+use mathlib.Core.Path.{_≡_, refl, sym, ap, _∙_}
+use Prim.Native.Nat.{ℕ}
 use native.Mathlib.Omega.{arith}
-use lib.Chars.{codes}
-use Rattle.std.specs.declared.option.Option.{Option}
 use Rattle.std.specs.declared.option.Option.the-variants.{Some, None}
-use Rattle.text.specs.Tokens.{Item, star, comma, word}
-use Rattle.text.specs.Ahead.{Ahead, ends, spoilt, token}
-use Rattle.text.specs.Out.{Out, got, bad, bind}
+use Rattle.text.specs.Tokens.{star, word}
+use Rattle.text.specs.Ahead.{Ahead, token}
+use Rattle.text.specs.Out.{got}
 use Rattle.forms.specs.Heads as heads
-use Rattle.forms.specs.Heads.{Head, head}
+use Rattle.forms.specs.Heads.{Head}
 use Rattle.forms.specs.Things.{Spot}
 use Rattle.rows.specs.Rows.{Row, segment-row, joint-row, point-row, way-row, signal-row, request-row, activation-row, move-row, release-row, zone-row}
 use Rattle.sheets.specs.declared.sections.Part.{Part}
@@ -19,8 +15,8 @@ use Rattle.sheets.specs.declared.sections.Part.the-variants.{Layout, Data}
 use Rattle.sheets.specs.Layout.{Sofar, a-row}
 use Rattle.sheets.specs.Data.{a-data-row}
 use Rattle.sheets.specs.Sections.{layout-turn, data-by-head, data-turn, a-turn}
-use Rattle.writing.specs.Marks.{token-of, the-star, says, Spelt}
-use Rattle.writing.specs.Spelling.{head-mark, body, spelling}
+use Rattle.writing.specs.Marks.{token-of, Spelt}
+use Rattle.writing.specs.Spelling.{head-mark, spelling}
 use Rattle.writing.specs.Forms.{May}
 use Rattle.writing.specs.Words.{head-word, Heads}
 use Rattle.writing.proofs.Heads.{head-is}

@@ -1,8 +1,8 @@
 -- A word is read as a thing exactly when it is the word that writes the thing.
 use mathlib.Core.Path.{_≡_, refl, sym, ap, _∙_, subst}
-use mathlib.Core.Bool.{Bool, true, false, cond, _&&_}
+use mathlib.Core.Bool.{true, false}
 use mathlib.Core.List.{List, [], _∷_, _++_}
-use Prim.Native.Nat.{ℕ, _+_}
+use Prim.Native.Nat.{ℕ}
 use native.Mathlib.Omega.{arith}
 use lib.Chars.{codes}
 use lib.Dec.{eqb}
@@ -11,8 +11,8 @@ use Rattle.std.specs.declared.option.Option.{Option}
 use Rattle.std.specs.declared.option.Option.the-variants.{Some, None}
 use Rattle.std.proofs.shelf.Tests.{eqb-false, both-ways}
 use Rattle.text.specs.Octets.{naming}
-use Rattle.forms.specs.Words.{is-name, is-joint, prefixed, bracketed, joined}
-use Rattle.forms.specs.Things.{Spot, Thing, segment, point, route, zone, subroute, try, name-at, segment-of, point-of, joint-of, thing-of}
+use Rattle.forms.specs.Words.{is-joint, prefixed, bracketed, joined}
+use Rattle.forms.specs.Things.{Spot, Thing, segment, point, route, zone, subroute, try, name-at, thing-of}
 use Rattle.naming.specs.Unknown.{thing-at}
 use Rattle.writing.specs.Words.{thing-word, zone-word, subroute-word, Named}
 use Rattle.writing.specs.Texts.{only}

@@ -1,29 +1,25 @@
 -- The token at the front of a list of octets, as it is set there.
-use mathlib.Core.Path.{_≡_, refl, sym, ap, _∙_, subst}
-use mathlib.Core.Bool.{Bool, true, false, cond, not, _&&_, _||_}
-use mathlib.Core.List.{List, [], _∷_, _++_}
-use Prim.Native.Nat.{ℕ, zero, suc, _+_, _-_, _≤_, _<_}
+use mathlib.Core.Path.{_≡_, refl, sym, ap, _∙_}
+use mathlib.Core.Bool.{Bool, true, false, cond}
+use mathlib.Core.List.{List, [], _∷_}
+use Prim.Native.Nat.{ℕ, suc, _+_, _-_, _≤_, _<_}
 use native.Mathlib.Omega.{arith}
 use native.Mathlib.Nat.{add-zero}
-use lib.Dec.{leb, ltb, eqb}
+use lib.Dec.{ltb, eqb}
 use lib.ListN.{length, getD, take, drop}
 use Rattle.std.specs.shelf.Lists.{leading}
 use Rattle.std.specs.declared.option.Option.{Option}
 use Rattle.std.specs.declared.option.Option.the-variants.{Some, None}
 use Rattle.std.specs.declared.result.Result.{Result}
 use Rattle.std.specs.declared.result.Result.the-variants.{Ok, Err}
-use Rattle.std.proofs.shelf.Lists.{length-drop, getD-drop, take-append-drop, take-at, length-take-le}
-use Rattle.std.proofs.shelf.Sums.{leading-le-length}
-use Rattle.std.proofs.shelf.Tests.{cond-true, cond-false, le-leb, lt-leb, le-ltb, lt-ltb, ltb-false, cases-lt, eqb-true, or-from, not-from-false, and-parts}
-use mathlib.Core.Logic.{_⊎_, inl, inr}
+use Rattle.std.proofs.shelf.Lists.{length-drop, getD-drop}
+use Rattle.std.proofs.shelf.Tests.{cond-true, cond-false, le-leb, lt-leb, le-ltb, lt-ltb, cases-lt}
+use mathlib.Core.Logic.{inl, inr}
 use Rattle.text.specs.declared.faults.WordFault.{WordFault}
 use Rattle.text.specs.declared.faults.WordFault.the-variants.{Octet, Long}
-use Rattle.text.specs.declared.octets.Class.the-variants.{Blank, Inner, Allowed}
-use Rattle.text.specs.Octets.{blank, allowed, inner, past}
-use Rattle.text.specs.Tokens.{Item, star, comma, word, word-between, as-item, token-at, end-at}
-use Rattle.writing.specs.Texts.{only, Stops, octets-of, offset-of, Whole}
-use Rattle.writing.proofs.Joints.{only-implies}
-use Rattle.writing.proofs.Runs.{leading-run, leading-none, only-take, stops-after, not-octet, not-blank, allowed-inner}
+use Rattle.text.specs.declared.octets.Class.the-variants.{Inner}
+use Rattle.text.specs.Octets.{allowed, inner, past}
+use Rattle.text.specs.Tokens.{Item, star, comma, word-between, as-item, token-at, end-at}
 
 -- the word at the front of a list that begins at offset i
 abbrev pub word-on : ℕ → List ℕ → Result (List ℕ) WordFault

@@ -1,13 +1,11 @@
 -- What a turn reads is a row as it is written, or the end of its part.
 use mathlib.Core.Path.{_≡_, refl, sym, ap, _∙_, subst}
-use mathlib.Core.Bool.{Bool, true, false, cond}
-use mathlib.Core.List.{List, [], _∷_, _++_}
-use Prim.Native.Nat.{ℕ, _+_}
+use mathlib.Core.List.{[], _∷_}
+use Prim.Native.Nat.{ℕ}
 use native.Mathlib.Omega.{arith}
-use lib.Chars.{codes}
 use Rattle.std.specs.declared.option.Option.{Option}
 use Rattle.std.specs.declared.option.Option.the-variants.{Some, None}
-use Rattle.text.specs.Tokens.{Item, star, comma, word}
+use Rattle.text.specs.Tokens.{star, comma, word}
 use Rattle.text.specs.Ahead.{Ahead, ends, spoilt, token}
 use Rattle.text.specs.Out.{Out, got, bad, bind}
 use Rattle.forms.specs.Heads as heads
@@ -18,10 +16,10 @@ use Rattle.steps.specs.Words.{a-word, a-star, a-star-or-end}
 use Rattle.sheets.specs.declared.sections.Part.{Part}
 use Rattle.sheets.specs.declared.sections.Part.the-variants.{Layout, Data}
 use Rattle.sheets.specs.Layout.{Sofar, a-segment-row, a-joint-row, a-point-row, a-way-row, a-signal-row, a-row, a-layout-row}
-use Rattle.sheets.specs.Data.{a-request-row, an-activation-row, a-move-row, a-release-row, a-zone-row, a-data-row}
+use Rattle.sheets.specs.Data.{a-data-row}
 use Rattle.sheets.specs.Sections.{layout-by-head, layout-turn, data-by-head, data-after, data-turn, a-turn}
-use Rattle.writing.specs.Marks.{token-of, the-star, says, Spelt}
-use Rattle.writing.specs.Spelling.{head-mark, body, spelling}
+use Rattle.writing.specs.Marks.{the-star, says, Spelt}
+use Rattle.writing.specs.Spelling.{spelling}
 use Rattle.writing.specs.Forms.{May}
 use Rattle.writing.specs.Words.{head-word, Heads}
 use Rattle.writing.proofs.Heads.{head-sound}

@@ -2,20 +2,17 @@
 use mathlib.Core.Path.{_≡_, refl, sym, ap, _∙_}
 use mathlib.Core.Bool.{Bool, true, false, cond}
 use mathlib.Core.List.{List, [], _∷_, _++_, append-assoc}
-use Prim.Native.Nat.{ℕ, _+_, _-_, _≤_, _<_, suc}
+use Prim.Native.Nat.{ℕ, _+_, _-_, _≤_, _<_}
 use native.Mathlib.Omega.{arith}
-use lib.Chars.{codes}
-use lib.Dec.{leb, ltb, eqb}
+use lib.Dec.{ltb, eqb}
 use lib.ListN.{length, getD, take, drop, length-append}
-use Rattle.std.specs.shelf.Lists.{leading}
 use Rattle.std.specs.shelf.Text.{sameBytes}
 use Rattle.std.specs.declared.option.Option.{Option}
 use Rattle.std.specs.declared.option.Option.the-variants.{Some, None}
 use Rattle.std.proofs.shelf.Equals.{sameBytes-decides}
 use Rattle.std.proofs.shelf.Lists.{take-append-drop, take-at, drop-at, take-more, take-all, length-push, getD-push}
-use Rattle.std.proofs.shelf.Tests.{cond-true, cond-false, lt-ltb, le-ltb, lt-leb, ltb-true, eqb-true, eqb-false, eq-eqb, and-parts}
-use Rattle.text.specs.Octets.{plain}
-use Rattle.forms.specs.Words.{is-name, is-joint, after, before, when, then-after, prefixed, bracketed, if-joints, two-joints, then-joints, joined}
+use Rattle.std.proofs.shelf.Tests.{cond-true, cond-false, lt-ltb, le-ltb, ltb-true, eqb-true, eq-eqb}
+use Rattle.forms.specs.Words.{is-name, after, before, when, then-after, prefixed, bracketed}
 
 -- what follows a front, with the front before it, is the word
 pub after-sound : (front w x : List ℕ) → after front w ≡ Some x → w ≡ front ++ x
