@@ -35,6 +35,7 @@ not-then (zone x) = refl
 not-then (subroute a b) = refl
 
 module _ (list : Listing) where
+  -- one pair, and what its comma leads to
   one-pair : (k : ℕ) (taken : List (Pair Spot)) (p : Pair Spot) (ts vs ws us : Ahead) (b : Bool) (all : List (Pair Spot)) → Reads list taken p ts vs → a-comma vs ≡ got b ws → after-comma list k taken p b ws ≡ got all us → pairs-from (suc k) list taken true ts ≡ got all us
   unfolding pairs-from
   one-pair k taken p ts vs ws us b all r c e =
@@ -42,6 +43,7 @@ module _ (list : Listing) where
       ∙ bind-is (a-comma vs) (after-comma list k taken p) b ws c
       ∙ e
 
+  -- pairs with commas between them
   chain-is : (ps : List (Pair Spot)) (k : ℕ) (taken : List (Pair Spot)) (p : Pair Spot) (ts us : Ahead) → k + length taken ≡ 33 → Closed us → Spelt (pairs (p ∷ ps)) ts us → All-stand list (p ∷ ps) → Within list (taken ++ p ∷ ps) → pairs-from k list taken true ts ≡ got (taken ++ p ∷ ps) us
   chain-is ps zero taken p ts us n c s a w =
       let m = most-bound list in

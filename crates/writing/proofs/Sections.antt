@@ -25,6 +25,7 @@ use Rattle.writing.proofs.Lists.{Closed}
 use Rattle.writing.proofs.Turns.{Ended, Turned, turn-sound}
 use Rattle.writing.proofs.Taken.{turn-is, turn-ends}
 
+-- three steps, however they are grouped
 bind-bind : {A B C : Type 0} (q : Out A) (f : A → Ahead → Out B) (g : B → Ahead → Out C) → bind (bind q f) g ≡ bind q (λ a us. bind (f a us) g)
 bind-bind (got a us) f g = refl
 bind-bind (bad n i) f g = refl
@@ -33,21 +34,25 @@ bind-bind (bad n i) f g = refl
 closed-star : (i : ℕ) (ts us : Ahead) → ts ≡ token (star i) us → Closed ts
 closed-star i ts us e = subst Closed (sym e) (refl, refl)
 
+-- the end of a part closes a list
 closed-end : (part : Part) (ts us : Ahead) → Ended part ts us → Closed ts
 closed-end Layout ts us e = closed-star (e .0) ts (e .1) (e .2)
 closed-end Data ts us e = subst Closed (sym (e .1)) (refl, refl)
 
+-- so does a row
 closed-rows : (part : Part) (rs : List (Row Spot)) (ts vs us : Ahead) → Spelt (spellings rs) ts vs → Ended part vs us → Closed ts
 closed-rows part [] ts vs us s e = subst Closed (sym s) (closed-end part vs us e)
 closed-rows part (r ∷ rs) ts vs us s e = closed-star (s .0) ts (s .1) (s .2)
 
 module _ (n : ℕ) (part : Part) where
+  -- what is read behind a row
   abbrev after-row : ℕ → Bool × Sofar → Ahead → Out Sofar
   after-row k p us = cond (p .0) (section k n part (p .1) us) (got (p .1) us)
 
   abbrev after-turn : ℕ → Sofar → Option (Row Spot) → Ahead → Out Sofar
   after-turn k rows o us = bind (with-row rows o us) (after-row k)
 
+  -- a part is a turn, and what is behind it
   section-step : (k : ℕ) (rows : Sofar) (ts : Ahead) → section (suc k) n part rows ts ≡ bind (a-turn part rows ts) (after-turn k rows)
   unfolding section
   section-step k rows ts = bind-bind (a-turn part rows ts) (with-row rows) (after-row k)
@@ -56,6 +61,7 @@ module _ (n : ℕ) (part : Part) where
   abbrev pub Goes : Sofar → Ahead → Sofar → Ahead → Type 0
   Goes rows ts all us = (rs : List (Row Spot)) × (vs : Ahead) × (all ≡ rows ++ rs) × Follow part rows rs × Spelt (spellings rs) ts vs × Ended part vs us
 
+  -- a row and more, or the end
   section-by : (k : ℕ) (rows all : Sofar) (ts ws us : Ahead) (o : Option (Row Spot)) → Turned part rows ts o ws → after-turn k rows o ws ≡ got all us
       → ((r : Row Spot) → section k n part (rows ++ r ∷ []) ws ≡ got all us → Goes (rows ++ r ∷ []) ws all us) → Goes rows ts all us
   section-by k rows all ts ws us None t e ih =

@@ -33,6 +33,7 @@ pub record Rows (t : List ℕ) (all : Sofar) : Type 0 where
   pub listed : Follow Data layout rest
   pub all-of : all ≡ layout ++ rest
 
+-- the data, behind the layout
 abbrev data-part : ℕ → Sofar → Ahead → Out Sofar
 data-part n rows ts = section n n Data rows ts
 
@@ -40,6 +41,7 @@ abbrev data-mark : List Mark
 data-mark = the-star ∷ says (head-word heads.the-data) ∷ []
 
 module _ (t : List ℕ) (all : Sofar) where
+  -- the text is short enough
   outcome-by : (b : Bool) (o : Out Sofar) → ltb 32768 (length t) ≡ b → outcome (cond b (bad 1 0) o) ≡ done all → (length t ≤ 32768) × ((us : Ahead) × (o ≡ got all us))
   outcome-by true o s e = let z : _≡_ {A = ℕ} 0 1 = cc in absurd (omega arith)
   outcome-by false (bad n i) s e = let z : _≡_ {A = ℕ} 0 1 = cc in absurd (omega arith)

@@ -30,6 +30,7 @@ module _ (rows : Sofar) (ts us : Ahead) where
   front : (r : Row Spot) (s : Spelt (spelling r) ts us) → ts ≡ token (star (s .0)) (token (token-of (head-mark r) (s .3 .0)) (s .3 .1))
   front r s = s .2 ∙ ap (token (star (s .0))) (s .3 .2)
 
+  -- a row of the layout
   layout-is : (r : Row Spot) → Closed us → Spelt (spelling r) ts us → May Layout rows r → layout-turn rows ts ≡ got (Some r) us
   layout-is (segment-row x) c s m =
       ap (layout-turn rows) (front (segment-row x) s) ∙ ap a-row (segment-row-is rows (s .3 .0) (s .3 .1) x us (s .3 .3) (m .1) (m .2))
@@ -52,6 +53,7 @@ module _ (rows : Sofar) (ts us : Ahead) where
   by-head r i h ws j e n f =
       ap (data-turn rows) e ∙ ap (λ o. data-by-head rows (i, head-word h) o ws) (head-is i h n) ∙ ap a-row f
 
+  -- a row of the data
   data-is : (r : Row Spot) → Closed us → Spelt (spelling r) ts us → May Data rows r → data-turn rows ts ≡ got (Some r) us
   data-is (segment-row x) c s m = let e = m .0 in let z : _≡_ {A = ℕ} 0 1 = cc in absurd (omega arith)
   data-is (joint-row x y f) c s m = let e = m .0 in let z : _≡_ {A = ℕ} 0 1 = cc in absurd (omega arith)

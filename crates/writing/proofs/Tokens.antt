@@ -27,20 +27,24 @@ word-on i v =
     cond (ltb (leading allowed v) (leading inner v)) (Err (Octet i))
     (cond (ltb 16 (leading inner v)) (Err (Long i)) (Ok (take (leading inner v) v)))
 
+-- the token at the front
 abbrev pub token-on : ℕ → List ℕ → Result (Option Item) WordFault
 token-on i [] = Ok None
 token-on i (c ∷ cs) =
     cond (eqb c 42) (Ok (Some (star i))) (cond (eqb c 44) (Ok (Some (comma i))) (as-item i (word-on i (c ∷ cs))))
 
+-- how long it is
 abbrev pub width : List ℕ → ℕ
 width [] = 0
 width (c ∷ cs) = cond (eqb c 42) 1 (cond (eqb c 44) 1 (leading inner (c ∷ cs)))
 
+-- a comparison from a place on
 same-ltb : (i a b : ℕ) → ltb (i + a) (i + b) ≡ ltb a b
 same-ltb i a b =
     elim (cases-lt a b) [ inl h ↦ lt-ltb (i + a) (i + b) (omega arith) ∙ sym (lt-ltb a b h) | inr h ↦ le-ltb (i + a) (i + b) (omega arith) ∙ sym (le-ltb a b h) ]
 
 module _ (t : List ℕ) (i : ℕ) where
+  -- the word at a place is the one at the front of what is left there
   word-is : (v : List ℕ) → drop i t ≡ v → word-between t i (past Inner t i) ≡ word-on i v
   word-is v e =
       let m : i + leading inner v - i ≡ leading inner v = omega arith in
@@ -48,6 +52,7 @@ module _ (t : List ℕ) (i : ℕ) where
       ∙ ap (λ b. cond b (Err (Octet i)) (cond (ltb 16 (i + leading inner v - i)) (Err (Long i)) (Ok (take (i + leading inner v - i) v)))) (same-ltb i (leading allowed v) (leading inner v))
       ∙ ap (λ n. cond (ltb (leading allowed v) (leading inner v)) (Err (Octet i)) (cond (ltb 16 n) (Err (Long i)) (Ok (take n v)))) m
 
+  -- the octet at a place is the first of what is left there
   first-is : (c : ℕ) (cs : List ℕ) → drop i t ≡ c ∷ cs → getD t i 0 ≡ c
   first-is c cs e = sym (ap (λ n. getD t n 0) (add-zero i)) ∙ sym (getD-drop i t 0 0) ∙ ap (λ y. getD y 0 0) e
 
@@ -66,11 +71,13 @@ module _ (t : List ℕ) (i : ℕ) where
       ∙ ap (λ b. cond (eqb b 42) (Ok (Some (star i))) (cond (eqb b 44) (Ok (Some (comma i))) (as-item i (word-between t i (past Inner t i))))) (first-is c cs e)
       ∙ ap (λ r. cond (eqb c 42) (Ok (Some (star i))) (cond (eqb c 44) (Ok (Some (comma i))) (as-item i r))) (word-is (c ∷ cs) e)
 
+  -- an end counted from a place
   width-by : (b d : Bool) (n : ℕ) → cond b (i + 1) (cond d (i + 1) (i + n)) ≡ i + cond b 1 (cond d 1 n)
   width-by true d n = refl
   width-by false true n = refl
   width-by false false n = refl
 
+  -- the token ends as far on as it is long
   pub end-at-is : (v : List ℕ) → drop i t ≡ v → end-at t i ≡ i + width v
   end-at-is [] e =
       let l = length-drop i t in
