@@ -1,7 +1,7 @@
 -- A text has no more tokens than octets, and its tokens end at its length.
-use mathlib.Core.Path.{_≡_, refl, sym, ap, _∙_, subst}
-use mathlib.Core.List.{List, [], _∷_, _++_}
-use Prim.Native.Nat.{ℕ, zero, suc, _+_, _-_, _≤_, _<_}
+use mathlib.Core.Path.{_≡_, refl, sym, ap, subst}
+use mathlib.Core.List.{List, [], _∷_}
+use Prim.Native.Nat.{ℕ, zero, suc, _+_, _-_, _≤_}
 use native.Mathlib.Omega.{arith}
 use lib.ListN.{length}
 use Rattle.std.specs.declared.option.Option.{Option}
@@ -14,7 +14,7 @@ use Rattle.text.specs.Ahead.{Ahead, ends, spoilt, token, follow, tokens-within,
 use Rattle.forms.specs.Things.{Spot}
 use Rattle.rows.specs.Rows.{Row}
 use Rattle.writing.specs.Texts.{Sound}
-use Rattle.writing.specs.Marks.{Mark, token-of, Spelt}
+use Rattle.writing.specs.Marks.{Mark, Spelt}
 use Rattle.writing.specs.Spelling.{spelling, spellings}
 use Rattle.std.proofs.shelf.Lists.{length-append}
 
@@ -30,30 +30,36 @@ Finishes n (ends m) = m ≡ n
 Finishes n (spoilt m i) = Unit {0}
 Finishes n (token t ts) = Finishes n ts
 
+-- one token more takes one turn more
 follow-size : (o : Result (Option Item) WordFault) (n k : ℕ) (ts : Ahead) → size ts ≤ k → size (follow o n ts) ≤ suc k
 follow-size (Ok None) n k ts h = omega arith
 follow-size (Ok (Some i)) n k ts h = omega arith
 follow-size (Err e) n k ts h = omega arith
 
+-- there are no more tokens than turns
 within-size : (k : ℕ) (t : List ℕ) (at : ℕ) → size (tokens-within k t at) ≤ k
 unfolding tokens-within
 within-size zero t at = omega arith
 within-size (suc k) t at = follow-size (next-token t at) (length t) k (tokens-within k t (next-place t at)) (within-size k t (next-place t at))
 
+-- nor more than octets
 pub tokens-size : (t : List ℕ) → size (tokens-from t 0) ≤ length t
 unfolding tokens-from
 tokens-size t = let h = within-size (length t - 0) t 0 in omega arith
 
+-- tokens that follow a token end where they would without it
 follow-finishes : (o : Result (Option Item) WordFault) (n : ℕ) (ts : Ahead) → Finishes n ts → Finishes n (follow o n ts)
 follow-finishes (Ok None) n ts h = refl
 follow-finishes (Ok (Some i)) n ts h = h
 follow-finishes (Err e) n ts h = tt
 
+-- however many turns there are, the tokens end at the length
 within-finishes : (k : ℕ) (t : List ℕ) (at : ℕ) → Finishes (length t) (tokens-within k t at)
 unfolding tokens-within
 within-finishes zero t at = refl
 within-finishes (suc k) t at = follow-finishes (next-token t at) (length t) (tokens-within k t (next-place t at)) (within-finishes k t (next-place t at))
 
+-- a text's tokens end at its length
 tokens-finish : (t : List ℕ) → Finishes (length t) (tokens-from t 0)
 unfolding tokens-from
 tokens-finish t = within-finishes (length t - 0) t 0
@@ -66,6 +72,7 @@ spelt-size (m ∷ ms) ts us s =
     let f = spelt-size ms (s .1) us (s .3) in
     omega arith
 
+-- what marks leave ends where all the tokens end
 spelt-finishes : (n : ℕ) (ms : List Mark) (ts us : Ahead) → Spelt ms ts us → Finishes n ts → Finishes n us
 spelt-finishes n [] ts us s f = subst (Finishes n) s f
 spelt-finishes n (m ∷ ms) ts us s f = spelt-finishes n ms (s .1) us (s .3) (subst (Finishes n) (s .2) f)

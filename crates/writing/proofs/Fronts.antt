@@ -1,13 +1,12 @@
 -- A token is found at the front of octets exactly as it is set there.
 use mathlib.Core.Path.{_≡_, refl, sym, ap, _∙_, subst}
-use mathlib.Core.Bool.{Bool, true, false, cond, not, _&&_, _||_}
+use mathlib.Core.Bool.{Bool, true, false, cond, _||_}
 use mathlib.Core.List.{List, [], _∷_, _++_}
-use Prim.Native.Nat.{ℕ, zero, suc, _+_, _-_, _≤_, _<_}
+use Prim.Native.Nat.{ℕ, _+_, _≤_}
 use native.Mathlib.Omega.{arith}
-use lib.Dec.{leb, ltb, eqb}
-use lib.ListN.{length, getD, take, drop}
+use lib.Dec.{ltb, eqb}
+use lib.ListN.{length, take, drop}
 use Rattle.std.specs.shelf.Lists.{leading}
-use Rattle.std.specs.declared.option.Option.{Option}
 use Rattle.std.specs.declared.option.Option.the-variants.{Some, None}
 use Rattle.std.specs.declared.result.Result.{Result}
 use Rattle.std.specs.declared.result.Result.the-variants.{Ok, Err}
@@ -38,6 +37,7 @@ none-on i (c ∷ cs) e = absurd (by (eqb c 42) (eqb c 44) (word-on i (c ∷ cs))
     by false false (Ok w) f = let z : _≡_ {A = ℕ} 0 1 = cc in omega arith
     by false false (Err g) f = let z : _≡_ {A = ℕ} 0 1 = cc in omega arith
 
+-- a word that is found is short enough and has only octets that it may have
 word-by : (i : ℕ) (v w : List ℕ) (b d : Bool) → ltb (leading allowed v) (leading inner v) ≡ b → ltb 16 (leading inner v) ≡ d → cond b (Err (Octet i)) (cond d (Err (Long i)) (Ok (take (leading inner v) v))) ≡ Ok w
     → (leading inner v ≤ leading allowed v) × (leading inner v ≤ 16) × (take (leading inner v) v ≡ w)
 word-by i v w true d s t e = let z : _≡_ {A = ℕ} 0 1 = cc in absurd (omega arith)
@@ -45,6 +45,7 @@ word-by i v w false true s t e = let z : _≡_ {A = ℕ} 0 1 = cc in absurd (ome
 word-by i v w false false s t e = let f : take (leading inner v) v ≡ w = cc in (ltb-false _ _ s, ltb-false _ _ t, f)
 
 module _ (i c : ℕ) (cs : List ℕ) (nb : blank c ≡ false) where
+  -- a word at the front
   word-found : eqb c 42 ≡ false → eqb c 44 ≡ false → (w : List ℕ) → word-on i (c ∷ cs) ≡ Ok w → Found i (c ∷ cs) (word i w)
   word-found s t w e =
       let v : List ℕ = c ∷ cs in
@@ -59,10 +60,12 @@ module _ (i c : ℕ) (cs : List ℕ) (nb : blank c ≡ false) where
       let wide : width v ≡ n = cond-false (eqb c 42) 1 (cond (eqb c 44) 1 n) s ∙ cond-false (eqb c 44) 1 n t in
       (drop n v, sym (take-append-drop n v) ∙ ap (λ y. y ++ drop n v) (q .2), refl, (omega arith, omega arith, all, stops-after inner v), wide ∙ sym long ∙ same)
 
+  -- what is neither star nor comma is a word
   item-found : eqb c 42 ≡ false → eqb c 44 ≡ false → (x : Item) (r : Result (List ℕ) WordFault) → word-on i (c ∷ cs) ≡ r → as-item i r ≡ Ok (Some x) → Found i (c ∷ cs) x
   item-found s t x (Err g) e f = let z : _≡_ {A = ℕ} 0 1 = cc in absurd (omega arith)
   item-found s t x (Ok w) e f = let g : word i w ≡ x = cc in subst (Found i (c ∷ cs)) g (word-found s t w e)
 
+  -- a star, a comma or a word
   first-found : (x : Item) (b d : Bool) → eqb c 42 ≡ b → eqb c 44 ≡ d → cond b (Ok (Some (star i))) (cond d (Ok (Some (comma i))) (as-item i (word-on i (c ∷ cs)))) ≡ Ok (Some x) → Found i (c ∷ cs) x
   first-found x true d s t e =
       let g : star i ≡ x = cc in
@@ -82,6 +85,7 @@ found i (c ∷ cs) x n e = first-found i c cs n x _ _ refl refl e
 abbrev pub Seen : Item → List ℕ → Type 0
 Seen x v = (token-on (offset-of x) v ≡ Ok (Some x)) × (width v ≡ length (octets-of x)) × Stops blank v
 
+-- a word that is set at the front
 word-seen : (i c : ℕ) (cs behind : List ℕ) → Whole (word i (c ∷ cs)) behind → Seen (word i (c ∷ cs)) (c ∷ (cs ++ behind))
 word-seen i c cs behind h =
     let w : List ℕ = c ∷ cs in
@@ -107,6 +111,7 @@ word-seen i c cs behind h =
       not-blank c a,
     )
 
+-- a star, a comma or a word that is set at the front
 pub seen : (x : Item) (behind : List ℕ) → Whole x behind → Seen x (octets-of x ++ behind)
 seen (star i) behind h = (refl, refl, refl)
 seen (comma i) behind h = (refl, refl, refl)

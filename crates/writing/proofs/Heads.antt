@@ -2,7 +2,7 @@
 use mathlib.Core.Path.{_≡_, refl, sym, ap, _∙_, subst}
 use mathlib.Core.Bool.{Bool, true, false, cond}
 use mathlib.Core.List.{List, [], _∷_, _++_}
-use Prim.Native.Nat.{ℕ, _+_}
+use Prim.Native.Nat.{ℕ}
 use native.Mathlib.Omega.{arith}
 use lib.Chars.{codes}
 use Rattle.std.specs.Options.{mapped}
@@ -44,13 +44,16 @@ head-by i l q a z u n r =
     (try n (λ x. a-point-row (i, x) Normal)
     (mapped (λ x. a-point-row (i, x) Reverse) r))))))
 
+-- the word writes the head
 abbrev Begins : Spot → Head → Type 0
 Begins w h = (w .1 ≡ head-word h) × Heads (w .0) h
 
 module _ (i : ℕ) (v : List ℕ) (h : Head) where
+  -- of equal heads
   is-head : (x : Head) → Some x ≡ Some h → Begins (i, v) x → Begins (i, v) h
   is-head x e w = let f : x ≡ h = cc in subst (λ y. Begins (i, v) y) f w
 
+  -- the layout's heads are words of their own
   layout-from : (s j p w g d : Bool) → sameBytes v (codes "SEG") ≡ s → sameBytes v (codes "JOINT") ≡ j → sameBytes v (codes "POINT") ≡ p → sameBytes v (codes "WAY") ≡ w → sameBytes v (codes "SIGNAL") ≡ g → sameBytes v (codes "DATA") ≡ d
       → cond s (Some a-segment) (cond j (Some a-joint) (cond p (Some a-point) (cond w (Some a-way) (cond g (Some a-signal) (cond d (Some the-data) None))))) ≡ Some h
       → Begins (i, v) h
@@ -62,6 +65,7 @@ module _ (i : ℕ) (v : List ℕ) (h : Head) where
   layout-from false false false false false true e1 e2 e3 e4 e5 e6 e = is-head the-data e (sameBytes-decides _ _ .0 e6, tt)
   layout-from false false false false false false e1 e2 e3 e4 e5 e6 e = let z : _≡_ {A = ℕ} 0 1 = cc in absurd (omega arith)
 
+  -- the form that finds something says which head it is
   head-from : (l : Option Head) (q a z : Option (List ℕ)) (u : Option (List ℕ × List ℕ)) (n r : Option (List ℕ))
       → layout-head v ≡ l → bracketed (codes "Q_R(") 41 v ≡ q → bracketed (codes "A_R(") 41 v ≡ a → bracketed (codes "U_IR(") 41 v ≡ z → joined (codes "U_") v ≡ u → bracketed (codes "P_") 78 v ≡ n → bracketed (codes "P_") 82 v ≡ r
       → head-by i l q a z u n r ≡ Some h → Begins (i, v) h
@@ -80,11 +84,13 @@ module _ (i : ℕ) (v : List ℕ) (h : Head) where
 pub head-sound : (w : Spot) (h : Head) → head w ≡ Some h → (w .1 ≡ head-word h) × Heads (w .0) h
 head-sound w h e = head-from (w .0) (w .1) h _ _ _ _ _ _ _ refl refl refl refl refl refl refl e
 
+-- the head, by what each form finds
 head-found : (i : ℕ) (v : List ℕ) (l : Option Head) (q a z : Option (List ℕ)) (u : Option (List ℕ × List ℕ)) (n r : Option (List ℕ))
     → layout-head v ≡ l → bracketed (codes "Q_R(") 41 v ≡ q → bracketed (codes "A_R(") 41 v ≡ a → bracketed (codes "U_IR(") 41 v ≡ z → joined (codes "U_") v ≡ u → bracketed (codes "P_") 78 v ≡ n → bracketed (codes "P_") 82 v ≡ r
     → head (i, v) ≡ head-by i l q a z u n r
 head-found i v l q a z u n r e1 e2 e3 e4 e5 e6 e7 = rw (← e1, ← e2, ← e3, ← e4, ← e5, ← e6, ← e7) refl
 
+-- the heads of points' rows
 point-head-is : (p : Position) (x : Spot) → Heads (x .0) (a-point-row x p) → head (x .0, head-word (a-point-row x p)) ≡ Some (a-point-row x p)
 point-head-is Normal x n =
     let v : List ℕ = 95 ∷ (x .1 ++ 78 ∷ []) in

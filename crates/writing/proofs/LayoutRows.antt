@@ -1,10 +1,10 @@
 -- Rows of the layout are read exactly as they are written.
-use mathlib.Core.Path.{_≡_, refl, sym, ap, _∙_, subst}
-use mathlib.Core.Bool.{Bool, true, false, cond}
-use mathlib.Core.List.{List, [], _∷_, _++_}
+use mathlib.Core.Path.{_≡_, refl, ap, _∙_}
+use mathlib.Core.Bool.{cond}
+use mathlib.Core.List.{List, []}
 use Prim.Native.Nat.{ℕ}
-use Rattle.text.specs.Tokens.{Item, word}
-use Rattle.text.specs.Ahead.{Ahead, token}
+use Rattle.text.specs.Tokens.{word}
+use Rattle.text.specs.Ahead.{Ahead}
 use Rattle.text.specs.Out.{Out, got, bad, bind}
 use Rattle.std.proofs.shelf.Tests.{cond-false}
 use Rattle.forms.specs.declared.lists.Listing.the-variants.{Settings}
@@ -15,7 +15,7 @@ use Rattle.rows.specs.Filters.{full, known, crowded}
 use Rattle.rows.specs.Rows.{Pair, Far, Row, segment-row, joint-row, point-row, way-row, signal-row}
 use Rattle.steps.specs.Words.{a-segment, a-joint, a-point, a-far}
 use Rattle.steps.specs.Pairs.{a-list}
-use Rattle.sheets.specs.declared.sections.Part.the-variants.{Layout, Data}
+use Rattle.sheets.specs.declared.sections.Part.the-variants.{Layout}
 use Rattle.sheets.specs.Layout.{Sofar, a-segment-row, a-joint-row, a-point-row, a-way-row, a-signal-row}
 use Rattle.writing.specs.Marks.{Spelt}
 use Rattle.writing.specs.Spelling.{body}
@@ -28,9 +28,11 @@ use Rattle.writing.proofs.Lists.{Closed, list-sound}
 use Rattle.writing.proofs.Listed.{list-is}
 
 module _ (rows : Sofar) (at : ℕ) (ts : Ahead) where
+  -- what rows read behind each of their parts, from the last to the first
   abbrev segment-2 : Spot → Ahead → Out (Row Spot)
   segment-2 x us = cond (known rows kind.Segment (x .1) []) (bad 5 (x .0)) (got (segment-row x) us)
 
+  -- segment rows
   pub segment-row-sound : (r : Row Spot) (us : Ahead) → a-segment-row rows at ts ≡ got r us → Fine rows Layout (word at (head-word heads.a-segment)) ts r us
   segment-row-sound r us e =
       let a = cond-got (full rows kind.Segment 64) 4 at (bind (a-segment ts) segment-2) r us e in
@@ -40,6 +42,7 @@ module _ (rows : Sofar) (at : ℕ) (ts : Ahead) where
       finish rows Layout (word at (head-word heads.a-segment)) ts r us (segment-row (b .0)) (b .1) (c .1)
       (refl, (at, refl), (0, b .1, s .0, refl), s .1, (a .0, c .0))
 
+  -- a segment row that is written is read
   pub segment-row-is : (x : Spot) (us : Ahead) → Spelt (body (segment-row x)) ts us → Formed (segment-row x) → Fresh rows (segment-row x) → a-segment-row rows at ts ≡ got (segment-row x) us
   segment-row-is x us s f n =
       cond-false (full rows kind.Segment 64) (bad 4 at) (bind (a-segment ts) segment-2) (n .0)
@@ -56,6 +59,7 @@ module _ (rows : Sofar) (at : ℕ) (ts : Ahead) where
   abbrev joint-2 : Spot → Ahead → Out (Row Spot)
   joint-2 x us = cond (known rows kind.Joint (x .1) []) (bad 5 (x .0)) (bind (a-segment us) (joint-3 x))
 
+  -- joint rows
   pub joint-row-sound : (r : Row Spot) (us : Ahead) → a-joint-row rows at ts ≡ got r us → Fine rows Layout (word at (head-word heads.a-joint)) ts r us
   joint-row-sound r us e =
       let a = cond-got (full rows kind.Joint 96) 4 at (bind (a-joint ts) joint-2) r us e in
@@ -70,6 +74,7 @@ module _ (rows : Sofar) (at : ℕ) (ts : Ahead) where
       finish rows Layout (word at (head-word heads.a-joint)) ts r us (joint-row x (d .0) (g .0)) (g .1) (g .3)
       (refl, (at, refl), (0, b .1, p .0, (0, d .1, q .0, (f .0, g .1, f .1, refl))), (p .1, q .1, f .2), (a .0, c .0))
 
+  -- a joint row that is written is read
   pub joint-row-is : (x y : Spot) (f : Far Spot) (us : Ahead) → Spelt (body (joint-row x y f)) ts us → Formed (joint-row x y f) → Fresh rows (joint-row x y f) → a-joint-row rows at ts ≡ got (joint-row x y f) us
   joint-row-is x y f us s h n =
       let vs = s .1 in
@@ -89,6 +94,7 @@ module _ (rows : Sofar) (at : ℕ) (ts : Ahead) where
   abbrev point-2 : Spot → Ahead → Out (Row Spot)
   point-2 x us = cond (known rows kind.Point (x .1) []) (bad 5 (x .0)) (bind (a-segment us) (point-3 x))
 
+  -- point rows
   pub point-row-sound : (r : Row Spot) (us : Ahead) → a-point-row rows at ts ≡ got r us → Fine rows Layout (word at (head-word heads.a-point)) ts r us
   point-row-sound r us e =
       let a = cond-got (full rows kind.Point 32) 4 at (bind (a-point ts) point-2) r us e in
@@ -102,6 +108,7 @@ module _ (rows : Sofar) (at : ℕ) (ts : Ahead) where
       finish rows Layout (word at (head-word heads.a-point)) ts r us (point-row x (d .0)) (d .1) (g .1)
       (refl, (at, refl), (0, b .1, p .0, (0, d .1, q .0, refl)), (p .1, q .1), (a .0, c .0, g .0))
 
+  -- a point row that is written is read
   pub point-row-is : (x y : Spot) (us : Ahead) → Spelt (body (point-row x y)) ts us → Formed (point-row x y) → Fresh rows (point-row x y) → a-point-row rows at ts ≡ got (point-row x y) us
   point-row-is x y us s h n =
       let vs = s .1 in
@@ -126,6 +133,7 @@ module _ (rows : Sofar) (at : ℕ) (ts : Ahead) where
   abbrev way-2 : Spot → Ahead → Out (Row Spot)
   way-2 s us = bind (a-joint us) (way-3 s)
 
+  -- way rows
   pub way-row-sound : (r : Row Spot) (us : Ahead) → a-way-row rows at ts ≡ got r us → Fine rows Layout (word at (head-word heads.a-way)) ts r us
   way-row-sound r us e =
       let a = cond-got (full rows kind.Way 96) 4 at (bind (a-segment ts) way-2) r us e in
@@ -140,6 +148,7 @@ module _ (rows : Sofar) (at : ℕ) (ts : Ahead) where
       finish rows Layout (word at (head-word heads.a-way)) ts r us (way-row (b .0) (c .0) (d .0) (g .0)) (g .1) (g .3)
       (refl, (at, refl), (0, b .1, p .0, (0, c .1, q .0, (0, d .1, o .0, l .0))), (p .1, q .1, o .1, l .1), a .0)
 
+  -- a way row that is written is read
   pub way-row-is : (x y z : Spot) (ps : List (Pair Spot)) (us : Ahead) → Closed us → Spelt (body (way-row x y z ps)) ts us → Formed (way-row x y z ps) → Fresh rows (way-row x y z ps) → a-way-row rows at ts ≡ got (way-row x y z ps) us
   way-row-is x y z ps us c s h n =
       let vs = s .1 in
@@ -159,6 +168,7 @@ module _ (rows : Sofar) (at : ℕ) (ts : Ahead) where
   abbrev signal-2 : Spot → Ahead → Out (Row Spot)
   signal-2 j us = bind (a-segment us) (signal-3 j)
 
+  -- signal rows
   pub signal-row-sound : (r : Row Spot) (us : Ahead) → a-signal-row rows at ts ≡ got r us → Fine rows Layout (word at (head-word heads.a-signal)) ts r us
   signal-row-sound r us e =
       let a = cond-got (full rows kind.Signal 48) 4 at (bind (a-joint ts) signal-2) r us e in
@@ -170,6 +180,7 @@ module _ (rows : Sofar) (at : ℕ) (ts : Ahead) where
       finish rows Layout (word at (head-word heads.a-signal)) ts r us (signal-row (b .0) (d .0)) (d .1) (g .1)
       (refl, (at, refl), (0, b .1, p .0, (0, d .1, q .0, refl)), (p .1, q .1), (a .0, g .0))
 
+  -- a signal row that is written is read
   pub signal-row-is : (x y : Spot) (us : Ahead) → Spelt (body (signal-row x y)) ts us → Formed (signal-row x y) → Fresh rows (signal-row x y) → a-signal-row rows at ts ≡ got (signal-row x y) us
   signal-row-is x y us s h n =
       let vs = s .1 in

@@ -1,8 +1,8 @@
 -- A text has these tokens exactly when it is made of them and of blanks.
 use mathlib.Core.Path.{_≡_, refl, sym, ap, _∙_, subst}
-use mathlib.Core.Bool.{Bool, true, false, cond}
-use mathlib.Core.List.{List, [], _∷_, _++_, append-nil}
-use Prim.Native.Nat.{ℕ, zero, suc, _+_, _-_, _≤_, _<_}
+use mathlib.Core.Bool.{true}
+use mathlib.Core.List.{List, [], _++_, append-nil}
+use Prim.Native.Nat.{ℕ, _+_, _≤_}
 use native.Mathlib.Omega.{arith}
 use lib.ListN.{length, take, drop}
 use Rattle.std.specs.shelf.Lists.{leading}
@@ -14,19 +14,21 @@ use Rattle.std.proofs.shelf.Lists.{length-append, length-drop, length-take-le, 
 use Rattle.std.proofs.shelf.Sums.{leading-le-length}
 use Rattle.text.specs.declared.faults.WordFault.{WordFault}
 use Rattle.text.specs.Octets.{blank}
-use Rattle.text.specs.Tokens.{Item, next-token, next-place}
+use Rattle.text.specs.Tokens.{Item, next-place}
 use Rattle.text.specs.Ahead.{Ahead, ends, spoilt, token, follow, tokens-from}
 use Rattle.text.proofs.Steps.{tokens-step}
-use Rattle.writing.specs.Texts.{only, Stops, octets-of, offset-of, Whole, Sets, Sound}
+use Rattle.writing.specs.Texts.{only, octets-of, offset-of, Sets, Sound}
 use Rattle.writing.proofs.Runs.{leading-run, leading-none, only-take, stops-after}
 use Rattle.writing.proofs.Tokens.{token-on, width, token-at-is, end-at-is}
 use Rattle.writing.proofs.Fronts.{none-on, found, seen}
 
+-- the tokens end where there is none
 follow-ends : (o : Result (Option Item) WordFault) (n m : ℕ) (rest : Ahead) → follow o n rest ≡ ends m → (o ≡ Ok None) × (m ≡ n)
 follow-ends (Ok None) n m rest e = let f : n ≡ m = cc in (refl, sym f)
 follow-ends (Ok (Some x)) n m rest e = let z : _≡_ {A = ℕ} 0 1 = cc in absurd (omega arith)
 follow-ends (Err g) n m rest e = let z : _≡_ {A = ℕ} 0 1 = cc in absurd (omega arith)
 
+-- the first token and those behind it
 follow-token : (o : Result (Option Item) WordFault) (n : ℕ) (rest : Ahead) (x : Item) (ts : Ahead) → follow o n rest ≡ token x ts → (o ≡ Ok (Some x)) × (rest ≡ ts)
 follow-token (Ok None) n rest x ts e = let z : _≡_ {A = ℕ} 0 1 = cc in absurd (omega arith)
 follow-token (Ok (Some y)) n rest x ts e = let f : y ≡ x = cc in let g : rest ≡ ts = cc in (ap (λ z. Ok (Some z)) f, g)
@@ -37,6 +39,7 @@ module _ (t : List ℕ) where
   abbrev from-front : ℕ → List ℕ → Ahead
   from-front i v = follow (token-on i v) (length t) (tokens-from t (i + width v))
 
+  -- the tokens from a place are that of the front and those behind it
   front-step : (p : ℕ) (u : List ℕ) → drop p t ≡ u → tokens-from t p ≡ from-front (p + leading blank u) (drop (leading blank u) u)
   front-step p u d =
       let i : ℕ = p + leading blank (drop p t) in
@@ -49,6 +52,7 @@ module _ (t : List ℕ) where
       ∙ ap (λ n. follow (token-on i v) (length t) (tokens-from t n)) (end-at-is t i v e)
       )
 
+  -- where there is no token there are only blanks
   end-set : (p : ℕ) (u : List ℕ) (n : ℕ) → drop p t ≡ u → p ≤ length t → tokens-from t p ≡ ends n → Sets p u (ends n)
   end-set p u n d l e =
       let g : ℕ = leading blank u in
@@ -65,6 +69,7 @@ module _ (t : List ℕ) where
   behind-is : (p i : ℕ) (u v oct behind : List ℕ) → drop p t ≡ u → drop i t ≡ v → v ≡ oct ++ behind → drop (i + length oct) t ≡ behind
   behind-is p i u v oct behind d e f = sym (drop-drop (length oct) i t) ∙ ap (drop (length oct)) (e ∙ f) ∙ drop-at oct behind (length oct) refl
 
+  -- the tokens of a text are set in it
   pub sets-sound : (ts : Ahead) (p : ℕ) (u : List ℕ) → drop p t ≡ u → p ≤ length t → tokens-from t p ≡ ts → Sound ts → Sets p u ts
   sets-sound (ends n) p u d l e s = end-set p u n d l e
   sets-sound (spoilt n i) p u d l e s = absurd s
@@ -98,6 +103,7 @@ module _ (t : List ℕ) where
         sets-sound ts (offset-of x + length (octets-of x)) behind rest within (ap (tokens-from t) next ∙ f .1) s,
       )
 
+  -- tokens that are set in a text are its tokens
   pub sets-is : (ts : Ahead) (p : ℕ) (u : List ℕ) → drop p t ≡ u → p ≤ length t → Sets p u ts → tokens-from t p ≡ ts
   sets-is (ends n) p u d l s =
       let r : leading blank (u ++ []) ≡ length u + 0 = leading-run blank u [] (s .0) in

@@ -1,20 +1,19 @@
 -- A list keeps its limits exactly when no pair of it was one too many.
-use mathlib.Core.Path.{_≡_, refl, sym, ap, _∙_}
+use mathlib.Core.Path.{_≡_, refl, ap, _∙_}
 use mathlib.Core.Bool.{Bool, true, false, cond, _&&_}
 use mathlib.Core.List.{List, [], _∷_, _++_}
-use mathlib.Core.Logic.{_⊎_, inl, inr}
 use Prim.Native.Nat.{ℕ, _+_, _≤_, _<_, suc}
 use native.Mathlib.Omega.{arith}
 use lib.Dec.{leb}
 use lib.ListN.{length, length-append}
 use Rattle.std.proofs.shelf.Lists.{length-push}
-use Rattle.std.proofs.shelf.Sums.{sumBy-append, sumBy-cons, sumBy-push}
-use Rattle.std.proofs.shelf.Tests.{or-from, or-parts, and-left, and-right, lt-leb, leb-false, and-cases}
+use Rattle.std.proofs.shelf.Sums.{sumBy-append, sumBy-cons}
+use Rattle.std.proofs.shelf.Tests.{or-from, or-parts, lt-leb, leb-false}
 use Rattle.forms.specs.declared.lists.Listing.{Listing}
 use Rattle.forms.specs.Lists.{most}
-use Rattle.forms.specs.Things.{Spot, Thing}
+use Rattle.forms.specs.Things.{Spot}
 use Rattle.rows.specs.Rows.{Pair}
-use Rattle.steps.specs.Pairs.{runs, in-path, subroutes, path-full, too-many}
+use Rattle.steps.specs.Pairs.{runs, in-path, subroutes, too-many}
 use Rattle.writing.specs.Forms.{Within}
 
 abbrev one-if : Bool → ℕ
@@ -27,11 +26,13 @@ subroutes-at taken p ps =
     sumBy-append (λ (q : Pair Spot). one-if (runs (q .thing))) taken (p ∷ ps)
     ∙ ap (λ n. subroutes taken + n) (sumBy-cons (λ (q : Pair Spot). one-if (runs (q .thing))) p ps)
 
+-- an empty list has none
 no-subroutes : subroutes {N = Spot} [] ≡ 0
 unfolding subroutes
 no-subroutes = refl
 
 module _ (list : Listing) (taken : List (Pair Spot)) (p : Pair Spot) where
+  -- a path that had room has at most 12
   path-kept : (b r : Bool) → in-path list ≡ b → runs (p .thing) ≡ r → (b && (r && leb 12 (subroutes taken))) ≡ false → (in-path list ≡ true → subroutes taken ≤ 12) → in-path list ≡ true → subroutes (taken ++ p ∷ []) ≤ 12
   path-kept false r i s e h t = let z : _≡_ {A = Bool} true false = cc in let y : _≡_ {A = ℕ} 0 1 = cc in absurd (omega arith)
   path-kept true false i s e h t =
@@ -55,6 +56,7 @@ module _ (list : Listing) (taken : List (Pair Spot)) (p : Pair Spot) where
       let n = length-push taken p in
       (omega arith, path-kept _ _ refl refl (q .1) (w .1))
 
+  -- a path of at most 12 had room
   path-room : (ps : List (Pair Spot)) (b r : Bool) → in-path list ≡ b → runs (p .thing) ≡ r → (in-path list ≡ true → subroutes (taken ++ p ∷ ps) ≤ 12) → (b && (r && leb 12 (subroutes taken))) ≡ false
   path-room ps false r i s h = refl
   path-room ps true false i s h = refl

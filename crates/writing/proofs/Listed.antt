@@ -1,28 +1,24 @@
 -- A list of pairs that is written is read, where nothing that could go on with it follows.
 use mathlib.Core.Path.{_≡_, refl, sym, ap, _∙_, subst}
-use mathlib.Core.Bool.{Bool, true, false, cond, not}
+use mathlib.Core.Bool.{Bool, true, false, not}
 use mathlib.Core.List.{List, [], _∷_, _++_, append-assoc}
-use Prim.Native.Nat.{ℕ, zero, suc, _+_, _≤_, _<_}
+use Prim.Native.Nat.{ℕ, zero, suc, _+_}
 use native.Mathlib.Omega.{arith}
 use lib.Chars.{codes}
 use lib.ListN.{length, length-append}
 use Rattle.std.specs.shelf.Text.{sameBytes}
-use Rattle.std.specs.declared.option.Option.{Option}
-use Rattle.std.specs.declared.option.Option.the-variants.{Some, None}
-use Rattle.std.proofs.shelf.Equals.{sameBytes-decides}
 use Rattle.std.proofs.shelf.Lists.{length-push}
-use Rattle.text.specs.Tokens.{Item, star, comma, word}
-use Rattle.text.specs.Ahead.{Ahead, ends, spoilt, token}
-use Rattle.text.specs.Out.{Out, got, bad, bind, a-comma}
+use Rattle.text.specs.Tokens.{word}
+use Rattle.text.specs.Ahead.{Ahead, token}
+use Rattle.text.specs.Out.{got, a-comma}
 use Rattle.forms.specs.declared.lists.Listing.{Listing}
-use Rattle.forms.specs.Lists.{most}
 use Rattle.forms.specs.Things.{Spot, Thing, segment, point, route, zone, subroute}
 use Rattle.rows.specs.Rows.{Pair}
 use Rattle.naming.specs.Unknown.{thing-at}
 use Rattle.steps.specs.Pairs.{a-pair, a-list-begins, pairs-from, a-list}
 use Rattle.steps.proofs.Turns.{most-bound, pairs-end}
 use Rattle.writing.specs.Marks.{Spelt}
-use Rattle.writing.specs.Spelling.{pairs, more-pairs}
+use Rattle.writing.specs.Spelling.{pairs}
 use Rattle.writing.specs.Words.{thing-word}
 use Rattle.writing.specs.Forms.{All-stand, Within, Listed}
 use Rattle.writing.proofs.Limits.{within-room}
@@ -39,6 +35,7 @@ not-then (zone x) = refl
 not-then (subroute a b) = refl
 
 module _ (list : Listing) where
+  -- one pair, and what its comma leads to
   one-pair : (k : ℕ) (taken : List (Pair Spot)) (p : Pair Spot) (ts vs ws us : Ahead) (b : Bool) (all : List (Pair Spot)) → Reads list taken p ts vs → a-comma vs ≡ got b ws → after-comma list k taken p b ws ≡ got all us → pairs-from (suc k) list taken true ts ≡ got all us
   unfolding pairs-from
   one-pair k taken p ts vs ws us b all r c e =
@@ -46,6 +43,7 @@ module _ (list : Listing) where
       ∙ bind-is (a-comma vs) (after-comma list k taken p) b ws c
       ∙ e
 
+  -- pairs with commas between them
   chain-is : (ps : List (Pair Spot)) (k : ℕ) (taken : List (Pair Spot)) (p : Pair Spot) (ts us : Ahead) → k + length taken ≡ 33 → Closed us → Spelt (pairs (p ∷ ps)) ts us → All-stand list (p ∷ ps) → Within list (taken ++ p ∷ ps) → pairs-from k list taken true ts ≡ got (taken ++ p ∷ ps) us
   chain-is ps zero taken p ts us n c s a w =
       let m = most-bound list in

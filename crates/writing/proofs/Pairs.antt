@@ -1,14 +1,14 @@
 -- A pair is read exactly as it is written.
-use mathlib.Core.Path.{_≡_, refl, sym, ap, _∙_, subst}
+use mathlib.Core.Path.{_≡_, refl, ap, _∙_, subst}
 use mathlib.Core.Bool.{Bool, true, false, cond}
-use mathlib.Core.List.{List, [], _∷_, _++_}
-use Prim.Native.Nat.{ℕ, _+_}
+use mathlib.Core.List.{List}
+use Prim.Native.Nat.{ℕ}
 use native.Mathlib.Omega.{arith}
 use Rattle.std.specs.declared.option.Option.{Option}
 use Rattle.std.specs.declared.option.Option.the-variants.{Some, None}
 use Rattle.std.proofs.shelf.Tests.{cond-true, cond-false}
-use Rattle.text.specs.Tokens.{Item, star, comma, word}
-use Rattle.text.specs.Ahead.{Ahead, ends, spoilt, token}
+use Rattle.text.specs.Tokens.{word}
+use Rattle.text.specs.Ahead.{Ahead, token}
 use Rattle.text.specs.Out.{Out, got, bad, bind}
 use Rattle.forms.specs.declared.states.State.{State}
 use Rattle.forms.specs.declared.lists.Listing.{Listing}
@@ -19,10 +19,10 @@ use Rattle.rows.specs.Rows.{Pair}
 use Rattle.naming.specs.Unknown.{thing-at}
 use Rattle.steps.specs.Words.{a-word}
 use Rattle.steps.specs.Pairs.{too-many, as-pair, pair-of, a-pair}
-use Rattle.writing.specs.Words.{thing-word, Named}
-use Rattle.writing.specs.Forms.{Among, Stands}
+use Rattle.writing.specs.Words.{thing-word}
+use Rattle.writing.specs.Forms.{Stands}
 use Rattle.writing.proofs.Things.{thing-sound, thing-is}
-use Rattle.writing.proofs.Steps.{bind-got, bind-is, word-sound}
+use Rattle.writing.proofs.Steps.{bind-got, word-sound}
 use Rattle.writing.proofs.States.{picked-sound, picked-is, among-admits}
 
 module _ (list : Listing) (taken : List (Pair Spot)) where
@@ -31,14 +31,17 @@ module _ (list : Listing) (taken : List (Pair Spot)) where
   Reads p ts us =
       (rest : Ahead) × (j : ℕ) × (ts ≡ token (word (thing-at (p .thing)) (thing-word (p .thing))) rest) × (rest ≡ token (word j (state-word (p .state))) us) × Stands list p × (too-many list taken (p .thing) ≡ false)
 
+  -- a pair that is read has a state
   as-pair-got : (th : Thing Spot) (s : Spot) (o : Option State) (ws : Ahead) (p : Pair Spot) (us : Ahead) → as-pair th s o ws ≡ got p us → (x : State) × (o ≡ Some x) × (record { thing = th; state = x } ≡ p) × (ws ≡ us)
   as-pair-got th s None ws p us e = let z : _≡_ {A = ℕ} 0 1 = cc in absurd (omega arith)
   as-pair-got th s (Some x) ws p us e =
       let f : record { thing = th; state = x } ≡ p = cc in (x, refl, f, cc)
 
+  -- the state behind a thing
   abbrev then-state : Thing Spot → Spot → Ahead → Out (Pair Spot)
   then-state th s us = as-pair th s (picked (choice list th) (s .1)) us
 
+  -- the thing may stand in the list, and is not too many
   guards : (th : Thing Spot) (i : ℕ) (vs : Ahead) (p : Pair Spot) (us : Ahead) (a b : Bool) → too-many list taken th ≡ b
       → cond a (cond b (bad 4 i) (bind (a-word vs) (then-state th))) (bad 3 i) ≡ got p us
       → (too-many list taken th ≡ false) × (bind (a-word vs) (then-state th) ≡ got p us)
@@ -46,6 +49,7 @@ module _ (list : Listing) (taken : List (Pair Spot)) where
   guards th i vs p us true true t e = let z : _≡_ {A = ℕ} 0 1 = cc in absurd (omega arith)
   guards th i vs p us true false t e = (t, e)
 
+  -- a thing and its state
   pair-from : (ts : Ahead) (w : Spot) (o : Option (Thing Spot)) (vs : Ahead) (p : Pair Spot) (us : Ahead) → ts ≡ token (word (w .0) (w .1)) vs → thing-of w ≡ o → pair-of list taken w o vs ≡ got p us → Reads p ts us
   pair-from ts w None vs p us g t e = let z : _≡_ {A = ℕ} 0 1 = cc in absurd (omega arith)
   pair-from ts w (Some th) vs p us g t e =
@@ -62,11 +66,13 @@ module _ (list : Listing) (taken : List (Pair Spot)) where
       (vs, s .0, g ∙ ap (λ (y : Spot). token (word (y .0) (y .1)) vs) (h .0), k, (h .1, c .1), q .0) in
       subst (λ y. Reads y ts us) (f .2) l
 
+  -- what is read as a pair is written so
   pub pair-sound : (ts : Ahead) (p : Pair Spot) (us : Ahead) → a-pair list taken ts ≡ got p us → Reads p ts us
   pair-sound ts p us e =
       let q = bind-got (a-word ts) (λ w vs. pair-of list taken w (thing-of w) vs) p us e in
       pair-from ts (q .0) _ (q .1) p us (word-sound ts (q .0) (q .1) (q .2)) refl (q .3)
 
+  -- a pair that is written is read
   pub pair-is : (ts : Ahead) (p : Pair Spot) (us : Ahead) → Reads p ts us → a-pair list taken ts ≡ got p us
   pair-is ts p us r =
       let th = p .thing in

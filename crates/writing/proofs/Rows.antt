@@ -10,6 +10,7 @@ use Rattle.writing.proofs.Parts.{closes}
 use Rattle.writing.proofs.Turns.{turn-sound}
 use Rattle.writing.proofs.Taken.{turn-is}
 
+-- a row is read exactly as it is written
 pub rows-law : (part : Part) (rows : List (Row Spot)) (ts : Ahead) (r : Row Spot) (us : Ahead) → Rows-law part rows ts r us
 rows-law part rows ts r us =
     (turn-sound rows ts (Some r) us part, λ c h. turn-is rows ts us part r (closes us c) (h .0) (h .1))

@@ -1,30 +1,31 @@
 -- A part is read exactly as its rows are written, one after another.
 use mathlib.Core.Path.{_≡_, refl, sym, ap, _∙_, subst}
-use mathlib.Core.Bool.{Bool, true, false, cond}
+use mathlib.Core.Bool.{Bool, cond}
 use mathlib.Core.List.{List, [], _∷_, _++_, append-assoc, append-nil}
-use Prim.Native.Nat.{ℕ, zero, suc, _+_, _≤_, _<_}
+use Prim.Native.Nat.{ℕ, zero, suc, _<_}
 use native.Mathlib.Omega.{arith}
 use lib.ListN.{length}
 use Rattle.std.specs.declared.option.Option.{Option}
 use Rattle.std.specs.declared.option.Option.the-variants.{Some, None}
-use Rattle.text.specs.Tokens.{Item, star}
-use Rattle.text.specs.Ahead.{Ahead, ends, token}
+use Rattle.text.specs.Tokens.{star}
+use Rattle.text.specs.Ahead.{Ahead, token}
 use Rattle.text.specs.Out.{Out, got, bad, bind}
 use Rattle.forms.specs.Things.{Spot}
 use Rattle.rows.specs.Rows.{Row}
 use Rattle.sheets.specs.declared.sections.Part.{Part}
 use Rattle.sheets.specs.declared.sections.Part.the-variants.{Layout, Data}
 use Rattle.sheets.specs.Layout.{Sofar}
-use Rattle.sheets.specs.Sections.{a-turn, with-row, one-more, section}
+use Rattle.sheets.specs.Sections.{a-turn, with-row, section}
 use Rattle.writing.specs.Marks.{Spelt}
 use Rattle.writing.specs.Spelling.{spelling, spellings}
-use Rattle.writing.specs.Forms.{May, Follow}
+use Rattle.writing.specs.Forms.{Follow}
 use Rattle.writing.proofs.Fine.{spelt-join, spelt-part}
 use Rattle.writing.proofs.Steps.{bind-got, bind-is}
 use Rattle.writing.proofs.Lists.{Closed}
 use Rattle.writing.proofs.Turns.{Ended, Turned, turn-sound}
 use Rattle.writing.proofs.Taken.{turn-is, turn-ends}
 
+-- three steps, however they are grouped
 bind-bind : {A B C : Type 0} (q : Out A) (f : A → Ahead → Out B) (g : B → Ahead → Out C) → bind (bind q f) g ≡ bind q (λ a us. bind (f a us) g)
 bind-bind (got a us) f g = refl
 bind-bind (bad n i) f g = refl
@@ -33,21 +34,25 @@ bind-bind (bad n i) f g = refl
 closed-star : (i : ℕ) (ts us : Ahead) → ts ≡ token (star i) us → Closed ts
 closed-star i ts us e = subst Closed (sym e) (refl, refl)
 
+-- the end of a part closes a list
 closed-end : (part : Part) (ts us : Ahead) → Ended part ts us → Closed ts
 closed-end Layout ts us e = closed-star (e .0) ts (e .1) (e .2)
 closed-end Data ts us e = subst Closed (sym (e .1)) (refl, refl)
 
+-- so does a row
 closed-rows : (part : Part) (rs : List (Row Spot)) (ts vs us : Ahead) → Spelt (spellings rs) ts vs → Ended part vs us → Closed ts
 closed-rows part [] ts vs us s e = subst Closed (sym s) (closed-end part vs us e)
 closed-rows part (r ∷ rs) ts vs us s e = closed-star (s .0) ts (s .1) (s .2)
 
 module _ (n : ℕ) (part : Part) where
+  -- what is read behind a row
   abbrev after-row : ℕ → Bool × Sofar → Ahead → Out Sofar
   after-row k p us = cond (p .0) (section k n part (p .1) us) (got (p .1) us)
 
   abbrev after-turn : ℕ → Sofar → Option (Row Spot) → Ahead → Out Sofar
   after-turn k rows o us = bind (with-row rows o us) (after-row k)
 
+  -- a part is a turn, and what is behind it
   section-step : (k : ℕ) (rows : Sofar) (ts : Ahead) → section (suc k) n part rows ts ≡ bind (a-turn part rows ts) (after-turn k rows)
   unfolding section
   section-step k rows ts = bind-bind (a-turn part rows ts) (with-row rows) (after-row k)
@@ -56,6 +61,7 @@ module _ (n : ℕ) (part : Part) where
   abbrev pub Goes : Sofar → Ahead → Sofar → Ahead → Type 0
   Goes rows ts all us = (rs : List (Row Spot)) × (vs : Ahead) × (all ≡ rows ++ rs) × Follow part rows rs × Spelt (spellings rs) ts vs × Ended part vs us
 
+  -- a row and more, or the end
   section-by : (k : ℕ) (rows all : Sofar) (ts ws us : Ahead) (o : Option (Row Spot)) → Turned part rows ts o ws → after-turn k rows o ws ≡ got all us
       → ((r : Row Spot) → section k n part (rows ++ r ∷ []) ws ≡ got all us → Goes (rows ++ r ∷ []) ws all us) → Goes rows ts all us
   section-by k rows all ts ws us None t e ih =

@@ -2,21 +2,17 @@
 use mathlib.Core.Path.{_≡_, refl, sym, ap, _∙_, subst}
 use mathlib.Core.Bool.{Bool, true, false, cond}
 use mathlib.Core.List.{List, [], _∷_, _++_}
-use Prim.Native.Nat.{ℕ, zero, suc, _+_, _≤_, _<_}
+use Prim.Native.Nat.{ℕ, suc, _+_, _≤_}
 use native.Mathlib.Omega.{arith}
 use lib.Dec.{ltb}
 use lib.ListN.{length}
-use Rattle.std.proofs.shelf.Lists.{length-append}
 use Rattle.std.proofs.shelf.Tests.{cond-false, ltb-false, le-ltb}
-use Rattle.text.specs.Ahead.{Ahead, ends, token, tokens-from}
-use Rattle.text.specs.Out.{Out, got, bad, bind}
+use Rattle.text.specs.Ahead.{Ahead, ends, tokens-from}
+use Rattle.text.specs.Out.{Out, got, bad}
 use Rattle.forms.specs.Heads as heads
-use Rattle.forms.specs.Things.{Spot}
-use Rattle.rows.specs.Rows.{Row}
-use Rattle.sheets.specs.declared.sections.Part.{Part}
 use Rattle.sheets.specs.declared.sections.Part.the-variants.{Layout, Data}
 use Rattle.sheets.specs.Layout.{Sofar}
-use Rattle.sheets.specs.Outcomes.{Outcome, done, refused, outcome}
+use Rattle.sheets.specs.Outcomes.{done, outcome}
 use Rattle.sheets.specs.Sections.{section, sheet-of, sheet}
 use Rattle.writing.specs.Marks.{Mark, the-star, says, Spelt}
 use Rattle.writing.specs.Spelling.{spellings, whole}
@@ -25,7 +21,7 @@ use Rattle.writing.specs.Forms.{Follow}
 use Rattle.writing.proofs.Counts.{size, tokens-size, spelt-size, spelt-end, rows-size}
 use Rattle.writing.proofs.Fine.{spelt-join, spelt-part}
 use Rattle.writing.proofs.Steps.{bind-got, bind-is}
-use Rattle.writing.proofs.Sections.{Goes, section-sound, section-is}
+use Rattle.writing.proofs.Sections.{section-sound, section-is}
 
 -- rows of the layout and rows of the data that the text spells
 pub record Rows (t : List ℕ) (all : Sofar) : Type 0 where
@@ -37,6 +33,7 @@ pub record Rows (t : List ℕ) (all : Sofar) : Type 0 where
   pub listed : Follow Data layout rest
   pub all-of : all ≡ layout ++ rest
 
+-- the data, behind the layout
 abbrev data-part : ℕ → Sofar → Ahead → Out Sofar
 data-part n rows ts = section n n Data rows ts
 
@@ -44,6 +41,7 @@ abbrev data-mark : List Mark
 data-mark = the-star ∷ says (head-word heads.the-data) ∷ []
 
 module _ (t : List ℕ) (all : Sofar) where
+  -- the text is short enough
   outcome-by : (b : Bool) (o : Out Sofar) → ltb 32768 (length t) ≡ b → outcome (cond b (bad 1 0) o) ≡ done all → (length t ≤ 32768) × ((us : Ahead) × (o ≡ got all us))
   outcome-by true o s e = let z : _≡_ {A = ℕ} 0 1 = cc in absurd (omega arith)
   outcome-by false (bad n i) s e = let z : _≡_ {A = ℕ} 0 1 = cc in absurd (omega arith)

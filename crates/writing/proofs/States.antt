@@ -1,16 +1,15 @@
 -- A word chooses a state exactly when it is the state's word and the state is among those to choose from.
 use mathlib.Core.Path.{_≡_, refl, sym, ap, _∙_}
 use mathlib.Core.Bool.{Bool, true, false, cond}
-use mathlib.Core.List.{List, [], _∷_}
+use mathlib.Core.List.{List}
 use mathlib.Core.Logic.{_⊎_, inl, inr}
 use Prim.Native.Nat.{ℕ}
 use native.Mathlib.Omega.{arith}
 use lib.Chars.{codes}
 use Rattle.std.specs.shelf.Text.{sameBytes}
-use Rattle.std.specs.declared.option.Option.{Option}
 use Rattle.std.specs.declared.option.Option.the-variants.{Some, None}
 use Rattle.std.proofs.shelf.Equals.{sameBytes-decides}
-use Rattle.std.proofs.shelf.Tests.{cond-true, cond-false}
+use Rattle.std.proofs.shelf.Tests.{cond-true}
 use Rattle.forms.specs.declared.states.State.{State}
 use Rattle.forms.specs.declared.states.State.the-variants.{Xs, Cfn, Cfr, S, Cn, Cr, N, R, F, L, C}
 use Rattle.forms.specs.declared.lists.Choice.{Choice}
@@ -33,6 +32,7 @@ state-at w =
     (cond (sameBytes w (codes "f")) F
     (cond (sameBytes w (codes "l")) L C)))))))))
 
+-- the word of a state writes it
 state-back : (s : State) → state-at (state-word s) ≡ s
 state-back Xs = refl
 state-back Cfn = refl
@@ -50,27 +50,33 @@ state-back C = refl
 words-differ : (s t : State) → state-word s ≡ state-word t → s ≡ t
 words-differ s t e = sym (state-back s) ∙ ap state-at e ∙ state-back t
 
+-- one state to choose from
 one-by : (w : List ℕ) (s x : State) (b : Bool) → sameBytes w (state-word s) ≡ b → cond b (Some s) None ≡ Some x → (w ≡ state-word x) × (x ≡ s)
 one-by w s x false t e = let z : _≡_ {A = ℕ} 0 1 = cc in absurd (omega arith)
 one-by w s x true t e = let f : s ≡ x = cc in (sameBytes-decides _ _ .0 t ∙ ap state-word f, sym f)
 
+-- two states to choose from
 two-by : (w : List ℕ) (s u x : State) (b c : Bool) → sameBytes w (state-word s) ≡ b → sameBytes w (state-word u) ≡ c → cond b (Some s) (cond c (Some u) None) ≡ Some x → (w ≡ state-word x) × ((x ≡ s) ⊎ (x ≡ u))
 two-by w s u x false false t v e = let z : _≡_ {A = ℕ} 0 1 = cc in absurd (omega arith)
 two-by w s u x false true t v e = let f : u ≡ x = cc in (sameBytes-decides _ _ .0 v ∙ ap state-word f, inr (sym f))
 two-by w s u x true c t v e = let f : s ≡ x = cc in (sameBytes-decides _ _ .0 t ∙ ap state-word f, inl (sym f))
 
+-- a word that chooses a state writes it
 pub picked-sound : (c : Choice) (w : List ℕ) (x : State) → picked c w ≡ Some x → (w ≡ state-word x) × Among c x
 picked-sound Nothing w x e = let z : _≡_ {A = ℕ} 0 1 = cc in absurd (omega arith)
 picked-sound (One s) w x e = one-by w s x _ refl e
 picked-sound (Two s u) w x e = two-by w s u x _ _ refl refl e
 
+-- equal states have one word
 same-word : (s x : State) → x ≡ s → sameBytes (state-word x) (state-word s) ≡ true
 same-word s x e = sameBytes-decides _ _ .1 (ap state-word e)
 
+-- the second of two
 second-by : (s x : State) (b : Bool) → sameBytes (state-word x) (state-word s) ≡ b → cond b (Some s) (cond true (Some x) None) ≡ Some x
 second-by s x false e = refl
 second-by s x true e = ap Some (sym (words-differ x s (sameBytes-decides _ _ .0 e)))
 
+-- a state among those to choose from is chosen by its word
 pub picked-is : (c : Choice) (x : State) → Among c x → picked c (state-word x) ≡ Some x
 picked-is Nothing x e = absurd e
 picked-is (One s) x e = cond-true _ _ _ (same-word s x e) ∙ ap Some (sym e)

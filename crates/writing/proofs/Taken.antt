@@ -1,17 +1,13 @@
 -- A row as it is written is what a turn reads.
-use mathlib.Core.Path.{_≡_, refl, sym, ap, _∙_, subst}
-use mathlib.Core.Bool.{Bool, true, false, cond}
-use mathlib.Core.List.{List, [], _∷_, _++_}
-use Prim.Native.Nat.{ℕ, _+_}
+use mathlib.Core.Path.{_≡_, refl, sym, ap, _∙_}
+use Prim.Native.Nat.{ℕ}
 use native.Mathlib.Omega.{arith}
-use lib.Chars.{codes}
-use Rattle.std.specs.declared.option.Option.{Option}
 use Rattle.std.specs.declared.option.Option.the-variants.{Some, None}
-use Rattle.text.specs.Tokens.{Item, star, comma, word}
-use Rattle.text.specs.Ahead.{Ahead, ends, spoilt, token}
-use Rattle.text.specs.Out.{Out, got, bad, bind}
+use Rattle.text.specs.Tokens.{star, word}
+use Rattle.text.specs.Ahead.{Ahead, token}
+use Rattle.text.specs.Out.{got}
 use Rattle.forms.specs.Heads as heads
-use Rattle.forms.specs.Heads.{Head, head}
+use Rattle.forms.specs.Heads.{Head}
 use Rattle.forms.specs.Things.{Spot}
 use Rattle.rows.specs.Rows.{Row, segment-row, joint-row, point-row, way-row, signal-row, request-row, activation-row, move-row, release-row, zone-row}
 use Rattle.sheets.specs.declared.sections.Part.{Part}
@@ -19,8 +15,8 @@ use Rattle.sheets.specs.declared.sections.Part.the-variants.{Layout, Data}
 use Rattle.sheets.specs.Layout.{Sofar, a-row}
 use Rattle.sheets.specs.Data.{a-data-row}
 use Rattle.sheets.specs.Sections.{layout-turn, data-by-head, data-turn, a-turn}
-use Rattle.writing.specs.Marks.{token-of, the-star, says, Spelt}
-use Rattle.writing.specs.Spelling.{head-mark, body, spelling}
+use Rattle.writing.specs.Marks.{token-of, Spelt}
+use Rattle.writing.specs.Spelling.{head-mark, spelling}
 use Rattle.writing.specs.Forms.{May}
 use Rattle.writing.specs.Words.{head-word, Heads}
 use Rattle.writing.proofs.Heads.{head-is}
@@ -34,6 +30,7 @@ module _ (rows : Sofar) (ts us : Ahead) where
   front : (r : Row Spot) (s : Spelt (spelling r) ts us) → ts ≡ token (star (s .0)) (token (token-of (head-mark r) (s .3 .0)) (s .3 .1))
   front r s = s .2 ∙ ap (token (star (s .0))) (s .3 .2)
 
+  -- a row of the layout
   layout-is : (r : Row Spot) → Closed us → Spelt (spelling r) ts us → May Layout rows r → layout-turn rows ts ≡ got (Some r) us
   layout-is (segment-row x) c s m =
       ap (layout-turn rows) (front (segment-row x) s) ∙ ap a-row (segment-row-is rows (s .3 .0) (s .3 .1) x us (s .3 .3) (m .1) (m .2))
@@ -56,6 +53,7 @@ module _ (rows : Sofar) (ts us : Ahead) where
   by-head r i h ws j e n f =
       ap (data-turn rows) e ∙ ap (λ o. data-by-head rows (i, head-word h) o ws) (head-is i h n) ∙ ap a-row f
 
+  -- a row of the data
   data-is : (r : Row Spot) → Closed us → Spelt (spelling r) ts us → May Data rows r → data-turn rows ts ≡ got (Some r) us
   data-is (segment-row x) c s m = let e = m .0 in let z : _≡_ {A = ℕ} 0 1 = cc in absurd (omega arith)
   data-is (joint-row x y f) c s m = let e = m .0 in let z : _≡_ {A = ℕ} 0 1 = cc in absurd (omega arith)

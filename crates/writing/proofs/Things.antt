@@ -1,8 +1,8 @@
 -- A word is read as a thing exactly when it is the word that writes the thing.
 use mathlib.Core.Path.{_≡_, refl, sym, ap, _∙_, subst}
-use mathlib.Core.Bool.{Bool, true, false, cond, _&&_}
+use mathlib.Core.Bool.{true, false}
 use mathlib.Core.List.{List, [], _∷_, _++_}
-use Prim.Native.Nat.{ℕ, _+_}
+use Prim.Native.Nat.{ℕ}
 use native.Mathlib.Omega.{arith}
 use lib.Chars.{codes}
 use lib.Dec.{eqb}
@@ -11,8 +11,8 @@ use Rattle.std.specs.declared.option.Option.{Option}
 use Rattle.std.specs.declared.option.Option.the-variants.{Some, None}
 use Rattle.std.proofs.shelf.Tests.{eqb-false, both-ways}
 use Rattle.text.specs.Octets.{naming}
-use Rattle.forms.specs.Words.{is-name, is-joint, prefixed, bracketed, joined}
-use Rattle.forms.specs.Things.{Spot, Thing, segment, point, route, zone, subroute, try, name-at, segment-of, point-of, joint-of, thing-of}
+use Rattle.forms.specs.Words.{is-joint, prefixed, bracketed, joined}
+use Rattle.forms.specs.Things.{Spot, Thing, segment, point, route, zone, subroute, try, name-at, thing-of}
 use Rattle.naming.specs.Unknown.{thing-at}
 use Rattle.writing.specs.Words.{thing-word, zone-word, subroute-word, Named}
 use Rattle.writing.specs.Texts.{only}
@@ -25,6 +25,7 @@ apart a b xs ys n e = let f : a ≡ b = cc in eqb-false a b n f
 
 -- so no form finds anything in a word that begins otherwise
 module _ (a b : ℕ) (xs front : List ℕ) (n : eqb a b ≡ false) where
+  -- a front and a name
   pub prefixed-miss : prefixed (b ∷ front) (a ∷ xs) ≡ None
   prefixed-miss = by _ refl
     where
@@ -32,6 +33,7 @@ module _ (a b : ℕ) (xs front : List ℕ) (n : eqb a b ≡ false) where
       by None e = refl
       by (Some x) e = absurd (apart a b xs (front ++ x) n (prefixed-sound (b ∷ front) (a ∷ xs) x e .0))
 
+  -- a front, a name and a last octet
   pub bracketed-miss : (last : ℕ) → bracketed (b ∷ front) last (a ∷ xs) ≡ None
   bracketed-miss last = by _ refl
     where
@@ -39,6 +41,7 @@ module _ (a b : ℕ) (xs front : List ℕ) (n : eqb a b ≡ false) where
       by None e = refl
       by (Some x) e = absurd (apart a b xs (front ++ (x ++ last ∷ [])) n (bracketed-sound (b ∷ front) last (a ∷ xs) x e .0))
 
+  -- a front and two joints
   pub joined-miss : joined (b ∷ front) (a ∷ xs) ≡ None
   joined-miss = by _ refl
     where
@@ -66,13 +69,16 @@ thing-by i s p r z u =
     (try z (λ x. zone (i, x))
     (mapped (λ q. subroute (i, q .0) (i, q .1)) u))))
 
+-- the word writes the thing
 abbrev Writes : Spot → Thing Spot → Type 0
 Writes w th = (w ≡ (thing-at th, thing-word th)) × Named th
 
 module _ (i : ℕ) (v : List ℕ) (th : Thing Spot) where
+  -- of equal things
   is-thing : (x : Thing Spot) → Some x ≡ Some th → Writes (i, v) x → Writes (i, v) th
   is-thing x e w = let f : x ≡ th = cc in subst (λ y. Writes (i, v) y) f w
 
+  -- the form that finds something says which thing it is
   thing-from : (s p r z : Option (List ℕ)) (u : Option (List ℕ × List ℕ))
       → prefixed (codes "T_") v ≡ s → prefixed (codes "P_") v ≡ p → prefixed (codes "R_") v ≡ r → bracketed (codes "U_IR(") 41 v ≡ z → joined (codes "U_") v ≡ u
       → thing-by i s p r z u ≡ Some th → Writes (i, v) th
@@ -88,6 +94,7 @@ module _ (i : ℕ) (v : List ℕ) (th : Thing Spot) where
 pub thing-sound : (w : Spot) (th : Thing Spot) → thing-of w ≡ Some th → (w ≡ (thing-at th, thing-word th)) × Named th
 thing-sound w th e = thing-from (w .0) (w .1) th _ _ _ _ _ refl refl refl refl refl e
 
+-- the thing, by what each form finds
 thing-found : (i : ℕ) (v : List ℕ) (s p r z : Option (List ℕ)) (u : Option (List ℕ × List ℕ))
     → prefixed (codes "T_") v ≡ s → prefixed (codes "P_") v ≡ p → prefixed (codes "R_") v ≡ r → bracketed (codes "U_IR(") 41 v ≡ z → joined (codes "U_") v ≡ u
     → thing-of (i, v) ≡ thing-by i s p r z u

@@ -1,7 +1,7 @@
 -- A text is read as a station exactly when it is a writing of it.
 use mathlib.Core.Path.{_≡_, refl, sym, ap, _∙_, subst}
 use mathlib.Core.Bool.{Bool, true, false, cond}
-use mathlib.Core.List.{List, [], _∷_, _++_}
+use mathlib.Core.List.{List, _++_}
 use Prim.Native.Nat.{ℕ}
 use native.Mathlib.Omega.{arith}
 use lib.ListN.{length}
@@ -34,23 +34,28 @@ use Rattle.writing.proofs.Sheets.{Rows, sheet-sound, sheet-is}
 abbrev Makes : Sofar → Station → Type 0
 Makes rows s = (first-unknown (index-of rows) rows ≡ None) × (incomplete rows ≡ false) × (s ≡ tables-of rows)
 
+-- no row is missing
 complete-by : (n : ℕ) (rows : Sofar) (s : Station) (b : Bool) → incomplete rows ≡ b → cond b (refused 7 n) (done (tables-of rows)) ≡ done s → (incomplete rows ≡ false) × (s ≡ tables-of rows)
 complete-by n rows s true i e = let z : _≡_ {A = ℕ} 0 1 = cc in absurd (omega arith)
 complete-by n rows s false i e = let f : tables-of rows ≡ s = cc in (i, sym f)
 
+-- no name is undeclared
 declared-by : (n : ℕ) (rows : Sofar) (s : Station) (q : Option ℕ) → first-unknown (index-of rows) rows ≡ q → judged-by n rows q ≡ done s → Makes rows s
 declared-by n rows s (Some i) u e = let z : _≡_ {A = ℕ} 0 1 = cc in absurd (omega arith)
 declared-by n rows s None u e = let p = complete-by n rows s _ refl e in (u, p .0, p .1)
 
+-- a station comes of rows
 judged-sound : (n : ℕ) (o : Outcome Sofar) (s : Station) → judged n o ≡ done s → (rows : Sofar) × (o ≡ done rows) × Makes rows s
 judged-sound n (refused m i) s e = let z : _≡_ {A = ℕ} 0 1 = cc in absurd (omega arith)
 judged-sound n (done rows) s e = (rows, refl, declared-by n rows s _ refl e)
 
+-- and rows that make it are judged so
 judged-is : (n : ℕ) (rows : Sofar) (s : Station) → Makes rows s → judged n (done rows) ≡ done s
 judged-is n rows s m =
     ap (judged-by n rows) (m .0) ∙ cond-false (incomplete rows) (refused 7 n) (done (tables-of rows)) (m .1) ∙ ap done (sym (m .2))
 
 module _ (t : List ℕ) (s : Station) where
+  -- what is read is written
   read-written : reading t ≡ done s → Written t s
   read-written e =
       let p = judged-sound (length t) (sheet t) s e in
@@ -70,12 +75,14 @@ module _ (t : List ℕ) (s : Station) where
         says = m .2;
       }
 
+  -- what is written is read
   written-read : Written t s → reading t ≡ done s
   written-read w =
       let all : Sofar = w .layout ++ w .data-rows in
       let r : Rows t all = record { layout = w .layout; rest = w .data-rows; few = w .few; spelt = subst (λ ts. Spelt (spelling (w .layout) (w .data-rows)) ts (ends (length t))) (sym (tokens-law t (w .tokens) .1 (w .set))) (w .spelt); laid = w .laid; listed = w .listed; all-of = refl } in
       ap (judged (length t)) (sheet-is t all r) ∙ judged-is (length t) all s (w .declared, w .complete, w .says)
 
+  -- the law of reading
   pub reading-law : Reading-law t s
   reading-law = (read-written, written-read)
 

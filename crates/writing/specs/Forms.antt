@@ -3,7 +3,7 @@ use mathlib.Core.Bool.{Bool, true, false, not}
 use mathlib.Core.List.{List, [], _∷_, _++_}
 use mathlib.Core.Logic.{_⊎_}
 use mathlib.Core.Path.{_≡_}
-use Prim.Native.Nat.{ℕ, _≤_}
+use Prim.Native.Nat.{_≤_}
 use lib.ListN.{length}
 use Rattle.forms.specs.declared.states.State.{State}
 use Rattle.forms.specs.declared.lists.Listing.{Listing}
@@ -11,7 +11,7 @@ use Rattle.forms.specs.declared.lists.Listing.the-variants.{Settings, RequestTe
 use Rattle.forms.specs.declared.lists.Choice.{Choice}
 use Rattle.forms.specs.declared.lists.Choice.the-variants.{Nothing, One, Two}
 use Rattle.forms.specs.Lists.{choice, most}
-use Rattle.forms.specs.Things.{Spot, Thing, segment, point}
+use Rattle.forms.specs.Things.{Spot}
 use Rattle.forms.specs.Words.{is-joint, is-name}
 use Rattle.rows.specs.declared.filters.Kind.the-variants as kind
 use Rattle.rows.specs.Filters.{move-kind, full, known, crowded}

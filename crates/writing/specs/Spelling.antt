@@ -1,8 +1,5 @@
 -- How rows are written: a star, a head, and words and commas in order. A name stands where the row says.
-use mathlib.Core.Bool.{true}
 use mathlib.Core.List.{List, [], _∷_, _++_}
-use mathlib.Core.Path.{_≡_}
-use Prim.Native.Nat.{ℕ}
 use lib.Chars.{codes}
 use Rattle.forms.specs.Heads as heads
 use Rattle.forms.specs.States.{state-word}
