@@ -1,0 +1,11 @@
+// What an accepted station promises of ways.
+ghost use Rattle.track.specs.Meaning.{laid};
+ghost use Rattle.track.specs.Ways.{One-fits};
+use check::Accepted;
+
+// Does nothing: its contract is that at most one way fits a train, however the points lie.
+pub fn one_way_fits(station: &Accepted<'_>)
+    ensures { λ _. ⌜ One-fits (laid (now (station .entry))) ⌝ }
+{
+    station.facts();
+}
