@@ -3,7 +3,7 @@ ghost use mathlib.Core.Bool.{true};
 ghost use mathlib.Core.Path.{_≡_};
 ghost use Rattle.lever.specs.Levers.{of-lever};
 ghost use Rattle.track.specs.Calls.{Drives, Settles, driven, point-refusal, settle-refusal};
-ghost use Rattle.track.specs.Meaning.{laid};
+ghost use Rattle.track.specs.Meaning.{a-point, laid};
 ghost use Rattle.track.specs.Refusals.{after, answer};
 use crate::kept::Lever;
 use crate::stands::LeverStanding;
@@ -26,6 +26,16 @@ use track::Refusal;
 use track::Trackside;
 use track::Train;
 
+// A point that lies where it is driven to.
+fn at_rest(target: Position) -> PointState
+    ensures { λ r. ⌜ r ≡ a-point target true ⌝ }
+{
+    PointState {
+        target,
+        settled: true,
+    }
+}
+
 pub impl Trackside for Lever as LeverTrackside {
     ghost meaning = { of-lever };
 
@@ -39,10 +49,7 @@ pub impl Trackside for Lever as LeverTrackside {
         }
         let p = self.points[point];
         if !p.target.same(&to) {
-            self.points[point] = PointState {
-                target: to,
-                settled: true,
-            };
+            self.points[point] = at_rest(to);
         }
         Ok(())
     }
@@ -56,10 +63,7 @@ pub impl Trackside for Lever as LeverTrackside {
             return Err(e);
         }
         let p = self.points[point];
-        self.points[point] = PointState {
-            target: p.target,
-            settled: true,
-        };
+        self.points[point] = at_rest(p.target);
         Ok(true)
     }
 

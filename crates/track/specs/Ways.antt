@@ -6,7 +6,7 @@ use mathlib.Core.Path.{_≡_}
 use Prim.Native.Nat.{ℕ, _<_}
 use lib.Dec.{eqb}
 use lib.ListN.{getD, length}
-use Rattle.std.specs.Options.{mapped}
+use Rattle.std.specs.Options.{Cases}
 use Rattle.std.specs.declared.option.Option.{Option}
 use Rattle.std.specs.declared.option.Option.the-variants.{Some, None}
 use Rattle.std.specs.shelf.Lists.{Has}
@@ -48,6 +48,17 @@ pub record Fits (s : Station) (m : Meaning) (t j w : ℕ) : Type 0 where
 -- at most one way fits, whatever the points
 abbrev pub One-fits : Station → Type 0
 One-fits s = (m : Meaning) (t j v w : ℕ) → Fits s m t j v → Fits s m t j w → v ≡ w
+
+-- a way fits that leads out over the joint k, and no other way fits
+pub record LeadsOut (s : Station) (m : Meaning) (t j k : ℕ) : Type 0 where
+  pub way : ℕ
+  pub fit : Fits s m t j way
+  pub onto : other-end (way-at s way) j ≡ k
+  pub only : (v : ℕ) → Fits s m t j v → v ≡ way
+
+-- a train leaves by the only way that fits; it has no way out where none fits
+abbrev pub Leads-out : Station → Type 0
+Leads-out s = (m : Meaning) (t j : ℕ) → Cases (way-out s m t j) ((w : ℕ) → Fits s m t j w → ⊥) (LeadsOut s m t j)
 
 -- the signal that governs entering the segment over the joint
 abbrev pub governs : Station → ℕ → ℕ → ℕ → Option ℕ
