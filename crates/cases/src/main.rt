@@ -1,6 +1,8 @@
 // Runs a table of texts, given on standard input, through the library and prints what comes of each.
 // A line `== LABEL` begins a case; the lines up to the next are its text. In it `\hh` is the octet with
 // that hexadecimal number, and `\(N)` is N spaces.
+#![tactic(auto)]
+
 mod escapes;
 
 use crate::escapes::Unescaper;

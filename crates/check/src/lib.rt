@@ -1,4 +1,6 @@
 // A draft becomes an accepted station only by the check.
+#![tactic(auto)]
+
 mod accepted;
 mod breaches;
 mod checking;

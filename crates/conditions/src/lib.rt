@@ -1,4 +1,6 @@
 // The tests of rows, and the one routine that finds the first test of a row that fails.
+#![tactic(auto)]
+
 mod asks;
 mod firsts_of_rows;
 mod kinds;

@@ -1,4 +1,6 @@
 // The rule of conflicting routes, over a board of marks that is restored when it ends.
+#![tactic(auto)]
+
 mod conflicts;
 mod marks;
 mod pairs;

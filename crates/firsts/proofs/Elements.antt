@@ -3,7 +3,7 @@ use Rattle.std.proofs.Common.{◌≡◌, ℕ, ◌+◌, ◌<◌, ◌≤◌, Bool,
 use Rattle.std.specs.List.{HoldsAt}
 use Rattle.std.proofs.lemmas.List.{at_drop_more, at_drop_all}
 use Rattle.std.proofs.lemmas.Bool.Decides.{Decides-by_and, Decides-by_or, Decides-like}
-use Rattle.std.proofs.lemmas.List.Elements.{Contains-get_or, All-contains, All-weaker, All-contains_itself}
+use Rattle.std.proofs.lemmas.List.Elements.{Contains-get_or, All-contains, All-nil, All-weaker, All-contains_itself, Contains-from_at, at_from_Contains}
 use Rattle.firsts.specs.Lists.{all, any}
 
 -- a test of every element tells what its parts tell
@@ -20,11 +20,11 @@ pub decides_some : {X : Type 0} {p : X → Bool} (P : X → Type 0) (d : X) → 
 decides_some {X} {p} P d each xs =
     Decides-like (any p xs)
     (λ (h : (k : ℕ) × (k < length xs) × HoldsAt P xs k). (get_or xs h.0 d, Contains-get_or xs h.0 d h.1, h.2 d))
-    (λ (h : (x : X) × Contains xs x × P x). (h.1.0, h.1.1, λ e. subst P (sym (h.1.2 e)) h.2))
+    (λ (h : (x : X) × Contains xs x × P x). let at : (k : ℕ) × (k < length xs) × HoldsAt (λ y. y ≡ h.0) xs k = at_from_Contains xs h.0 h.1 in (at.0, at.1, λ d. subst P (sym (at.2 d)) h.2))
     (decides_any P each xs)
 
 all_by_has : {X : Type 0} (P : X → Type 0) (xs : List X) → ((x : X) → Contains xs x → P x) → All P xs
-all_by_has P [] h = tt
+all_by_has P [] h = All-nil P
 all_by_has P (y ∷ ys) h = All-weaker (Contains (y ∷ ys)) P h (y ∷ ys) (All-contains_itself (y ∷ ys))
 
 -- every element keeps P
@@ -35,7 +35,7 @@ decides_every {X} {p} P each xs =
 -- whether a list has x
 pub decides_has : {X : Type 0} {alike : X → X → Bool} → ((x y : X) → Decides (alike x y) (x ≡ y)) → (xs : List X) (x : X) → Decides (any (alike x) xs) (Contains xs x)
 decides_has {X} {alike} each xs x =
-    decides_any (λ y. y ≡ x) (λ y. Decides-like (alike x y) sym sym (each x y)) xs
+    Decides-like (any (alike x) xs) (Contains-from_at xs x) (at_from_Contains xs x) (decides_any (λ y. y ≡ x) (λ y. Decides-like (alike x y) sym sym (each x y)) xs)
 
 module _ {X : Type 0} (p : X → Bool) where
   pub all_map : {Y : Type 0} (f : Y → X) (ys : List Y) → all p (map f ys) ≡ all (λ y. p (f y)) ys

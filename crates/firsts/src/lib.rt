@@ -1,4 +1,6 @@
 // The first place that has an answer, and whether every place keeps a claim.
+#![tactic(auto)]
+
 mod claims;
 mod lists;
 mod probes;

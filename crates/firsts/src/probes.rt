@@ -15,7 +15,7 @@ pub trait Probe {
 
 // The answer at the first number below n that has one.
 pub fn first<P: Probe>(p: &P, n: usize) -> Option<P::Found>
-    ensures { result ≡ first_below (at p.now) n }
+    ensures { result ≡ first_below (P.at p.now) n }
 {
     for i in 0..n {
         if let Some(x) = p.probe(i) {
@@ -40,7 +40,7 @@ fn lower(a: Option<usize>, b: Option<usize>) -> Option<usize>
 
 // The lowest answer at the numbers below n.
 pub fn least<P: Probe<Found = usize>>(p: &P, n: usize) -> Option<usize>
-    ensures { result ≡ least_below (at p.now) n }
+    ensures { result ≡ least_below (P.at p.now) n }
 {
     let mut lowest = None;
     for i in 0..n {

@@ -1,4 +1,6 @@
 // What the words of a station text can be: names, things, states and the heads of rows.
+#![tactic(auto)]
+
 mod heads;
 mod lists;
 mod names;

@@ -1,4 +1,6 @@
 // What a layer keeps that holds points in motion and trains derailed, and how a track is seen through it.
+#![tactic(auto)]
+
 mod courses;
 mod homes;
 mod kept;

@@ -1,4 +1,6 @@
 // The image of a motor track in octets: a track made from it, and read back.
+#![tactic(auto)]
+
 mod law;
 mod makes;
 mod parts;

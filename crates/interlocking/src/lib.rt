@@ -1,4 +1,6 @@
 // The interlocking: a machine that steps a station's data over a trackside.
+#![tactic(auto)]
+
 mod calling;
 mod grants;
 mod machine;

@@ -1,4 +1,6 @@
 // The rules of the layout, each with the first thing that breaks it.
+#![tactic(auto)]
+
 mod settings;
 mod sides;
 mod signals;

@@ -1,4 +1,6 @@
 // The lever track: a point is settled as soon as it is driven.
+#![tactic(auto)]
+
 mod calls;
 mod kept;
 mod lending;

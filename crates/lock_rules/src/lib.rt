@@ -1,4 +1,6 @@
 // The rules of locks: how subroutes are released, and what keeps points from moving.
+#![tactic(auto)]
+
 mod points;
 mod release;
 

@@ -1,4 +1,6 @@
 // What the tables say of a number, and whether a row has a test.
+#![tactic(auto)]
+
 mod counts;
 mod joints;
 mod numbers;

@@ -1,4 +1,6 @@
 // The motor track: a driven point is in motion for 8 settlings.
+#![tactic(auto)]
+
 mod calls;
 mod kept;
 mod makes;

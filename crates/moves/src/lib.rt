@@ -1,4 +1,6 @@
 // What the calls on one train come to: enter, front, rear and turn.
+#![tactic(auto)]
+
 ghost use Rattle.std.specs.Prelude.{◌≡◌};
 ghost use Rattle.station.specs.Joints.{across};
 ghost use Rattle.station.specs.Station.{station};

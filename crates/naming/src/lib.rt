@@ -1,4 +1,6 @@
 // The numbers that names have, names that nothing has, and rows that are missing.
+#![tactic(auto)]
+
 mod index;
 mod keys;
 mod missing;

@@ -1,4 +1,6 @@
 // The octets of an image: its first three, and those of a point, a signal and a train, written and read.
+#![tactic(auto)]
+
 mod frame;
 mod law;
 mod lists;

@@ -1,4 +1,6 @@
 // What a station says of its locks and signals to an interlocking, and the routes that a passing ends.
+#![tactic(auto)]
+
 mod locks;
 mod signals;
 

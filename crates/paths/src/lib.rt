@@ -1,4 +1,6 @@
 // The paths of routes, and the zones that cover their subroutes.
+#![tactic(auto)]
+
 mod along;
 mod cover;
 mod users;

@@ -1,4 +1,6 @@
 // Piles of layers over a track: each is a trackside again, and generic code runs over it.
+#![tactic(auto)]
+
 mod builds;
 mod throws;
 

@@ -1,4 +1,6 @@
 // Station texts into tables.
+#![tactic(auto)]
+
 mod entries;
 mod filling;
 mod resolve;

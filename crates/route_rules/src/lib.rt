@@ -1,4 +1,6 @@
 // The rules of routes, each with the first route that breaks it.
+#![tactic(auto)]
+
 mod activation;
 mod path;
 mod request;

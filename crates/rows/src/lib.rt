@@ -1,4 +1,6 @@
 // The rows of a station text: their forms, their limits, and that nothing is declared twice.
+#![tactic(auto)]
+
 mod faults;
 mod filters;
 mod rows;

@@ -1,4 +1,6 @@
 // Whole texts as lists of rows.
+#![tactic(auto)]
+
 mod data;
 mod layout;
 mod sections;

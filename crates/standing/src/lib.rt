@@ -1,4 +1,6 @@
 // What is read off a track that keeps its own state: the refusals in their order, and the way that fits.
+#![tactic(auto)]
+
 mod motions;
 mod standing;
 mod ways;

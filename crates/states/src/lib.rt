@@ -1,4 +1,6 @@
 // What an interlocking keeps of its own: the states of routes, the locks, and a note of each train.
+#![tactic(auto)]
+
 mod denials;
 mod places;
 mod routes;

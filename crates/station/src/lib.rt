@@ -1,4 +1,6 @@
 // The tables of a station: what a station text says, with every name resolved to a number.
+#![tactic(auto)]
+
 mod names;
 mod tables;
 mod tests;

@@ -1,4 +1,6 @@
 // The steps by which rows are read: words of a form, and lists of pairs.
+#![tactic(auto)]
+
 mod lists;
 mod words;
 

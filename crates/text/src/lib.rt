@@ -1,4 +1,6 @@
 // The words and marks of a station text, read in place.
+#![tactic(auto)]
+
 mod faults;
 mod octets;
 mod reader;

@@ -1,4 +1,6 @@
 // The trackside: what lies outside, by its meaning. Points, signals and trains, and the eleven calls on them.
+#![tactic(auto)]
+
 mod laws;
 mod refusals;
 mod states;

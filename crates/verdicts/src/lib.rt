@@ -1,4 +1,6 @@
 // What the checker answers to a text, and how it says so.
+#![tactic(auto)]
+
 mod explain;
 mod names;
 mod places;

@@ -1,4 +1,6 @@
 // The law of reading: which texts are read, and as what tables, by how rows are written.
+#![tactic(auto)]
+
 mod law;
 mod whole;
 

@@ -1,5 +1,7 @@
 // Reads a station text from standard input, checks it, and says in one line what comes of it. Only an
 // accepted station ends the program with status 0; for a person, the reason goes to standard error.
+#![tactic(auto)]
+
 use anyhow::anyhow;
 use station::Tables;
 use std::io::Read;

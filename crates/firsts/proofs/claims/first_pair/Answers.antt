@@ -9,7 +9,7 @@ returns-in-Some g c =
 
 pub loop-i-preserved : goal.loop-i-preserved
 loop-i-preserved g c =
-    c.loop-i.invariant ∙ from_miss _ _ _ c.loop-i-test.true (ap (paired c.loop-i.i) (sym c.in-default.ensures))
+    c.loop-i.invariant ∙ from_miss _ _ _ c.loop-i-test.true (ap (paired c.loop-i.i) (sym c.in_default.ensures))
 
 pub returns : goal.returns
 returns g c = sym (c.loop-i.invariant ∙ from_done _ _ _ c.loop-i-test.false)
