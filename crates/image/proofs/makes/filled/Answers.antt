@@ -7,4 +7,4 @@ pub returns : goal.returns
 returns c =
     filled_so (station c.args.tables.now) c.args.points c.args.signals c.args.octets.now
     (vec_items c.in-Some.runs) (vec_items c.in-Some-2.aspects) (vec_items c.in-Some-3.trains) c.requires.few
-    (search rules) (search rules) (search rules) c.of-parts.result c.of-parts.ensures
+    (search rules) (search rules) (search rules) c.of_parts.result c.of_parts.ensures

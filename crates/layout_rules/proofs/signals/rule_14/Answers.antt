@@ -8,5 +8,5 @@ use Rattle.layout_rules.proofs.signals.rule_14.Goals as goal
 pub returns : goal.returns
 returns c =
     let s = station c.args.tables.now in
-    let v = c.first-breach.ensures ∙ ap (first_failing _) c.signal-count.ensures in
+    let v = c.first_breach.ensures ∙ ap (first_failing _) c.signal_count.ensures in
     record { value = v; first = subst (Breach14 s) (sym v) (first_14 s) }

@@ -8,5 +8,5 @@ use Rattle.layout_rules.proofs.way_pairs.rule_13.Goals as goal
 pub returns : goal.returns
 returns c =
     let s = station c.args.tables.now in
-    let v = c.first-pair.ensures ∙ ap (λ n. first_pair (pair_apart s) n n) c.way-count-n.ensures in
+    let v = c.first_pair.ensures ∙ ap (λ n. first_pair (pair_apart s) n n) c.way_count-n.ensures in
     record { value = v; first = subst (Breach13 s) (sym v) (first_13 s) }

@@ -9,7 +9,7 @@ pub returns : goal.returns
 returns c =
     let s = station c.args.tables.now in
     let v =
-    c.first-pair.ensures
-    ∙ ap (λ n. first_pair (kept_26 s) n c.subroute-count.result) c.point-count.ensures
-    ∙ ap (first_pair (kept_26 s) (length s.points)) c.subroute-count.ensures in
+    c.first_pair.ensures
+    ∙ ap (λ n. first_pair (kept_26 s) n c.subroute_count.result) c.point_count.ensures
+    ∙ ap (first_pair (kept_26 s) (length s.points)) c.subroute_count.ensures in
     record { value = v; first = subst (Breach26 s) (sym v) (first_26 s) }

@@ -8,5 +8,5 @@ use Rattle.lock_rules.proofs.release.rule_25.Goals as goal
 pub returns : goal.returns
 returns c =
     let s = station c.args.tables.now in
-    let v = c.first-breach.ensures ∙ ap (first_failing _) c.subroute-count.ensures in
+    let v = c.first_breach.ensures ∙ ap (first_failing _) c.subroute_count.ensures in
     record { value = v; first = subst (Breach25 s) (sym v) (first_25 s) }

@@ -5,4 +5,4 @@ use Rattle.lookups.proofs.joints.signal.Goals as goal
 
 pub returns-else-n-signals : goal.returns-else-n-signals
 returns-else-n-signals c =
-    sym (get_or_past _ _ _ c.if-n-signals.false) ∙ ap (λ xs. get_or xs c.args.n no_signal) c.as-slice-signals.ensures.value
+    sym (get_or_past _ _ _ c.if-n-signals.false) ∙ ap (λ xs. get_or xs c.args.n no_signal) c.as_slice-signals.ensures.value

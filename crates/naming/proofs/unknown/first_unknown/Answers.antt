@@ -13,7 +13,7 @@ returns-in-Some c =
 pub loop-row-preserved : goal.loop-row-preserved
 loop-row-preserved c =
     let at = ap (λ r. unknown_in_row (indexed c.args.index.now) (placed_row r)) (sym c.row-item.is) in
-    first_go (unknown_in_row (indexed c.args.index.now)) placed_row _ _ _ c.loop-row-test.true c.loop-row.invariant (at ∙ sym c.in-default.ensures)
+    first_go (unknown_in_row (indexed c.args.index.now)) placed_row _ _ _ c.loop-row-test.true c.loop-row.invariant (at ∙ sym c.in_default.ensures)
 
 pub returns : goal.returns
 returns c = first_end (unknown_in_row (indexed c.args.index.now)) placed_row _ _ c.loop-row-test.false c.loop-row.invariant

@@ -9,9 +9,9 @@ loop-r-init c = passed_none (station c.args.tables.now) c.args.signal c.args.sta
 
 pub loop-r-preserved : goal.loop-r-preserved
 loop-r-preserved c =
-    passed_more (station c.args.tables.now) c.args.signal c.args.states.now c.loop-r.r c.loop-r.states c.pass-route.new.states c.loop-r.invariant c.pass-route.ensures
+    passed_more (station c.args.tables.now) c.args.signal c.args.states.now c.loop-r.r c.loop-r.states c.pass_route.new.states c.loop-r.invariant c.pass_route.ensures
 
 pub returns : goal.returns
 returns c =
-    let all : c.loop-r.r ≡ c.route-count-n.result = omega (arith, c.loop-r-test.false, c.loop-r.auto.r-end) in
-    c.loop-r.invariant ∙ ap (passed_routes (station c.args.tables.now) c.args.signal c.args.states.now) (all ∙ c.route-count-n.ensures)
+    let all : c.loop-r.r ≡ c.route_count-n.result = omega (arith, c.loop-r-test.false, c.loop-r.auto.r-end) in
+    c.loop-r.invariant ∙ ap (passed_routes (station c.args.tables.now) c.args.signal c.args.states.now) (all ∙ c.route_count-n.ensures)

@@ -1,7 +1,7 @@
 use Rattle.std.proofs.Common.{length, ap, arith}
 use Rattle.paths.proofs.Loops.{path_more, path_end}
 use Rattle.paths.proofs.along.length_of.Goals as goal
-use Rattle.paths.proofs.along.length_of.Goals.{in-Some, in-default}
+use Rattle.paths.proofs.along.length_of.Goals.{in-Some, in_default}
 
 pub loop-a-preserved : goal.loop-a-preserved
 loop-a-preserved c =
@@ -9,8 +9,8 @@ loop-a-preserved c =
       | in-Some w ↦
           let e = ap length (path_more c.args.actions.now c.loop-a.a-index _ c.loop-a-test.true _ w.in-Some.ensures) in
           (omega (arith, w.count-is, c.loop-a.invariant.0), omega (arith, w.count-is, c.loop-a.invariant.1))
-      | in-default w ↦
-          let e = ap length (path_more c.args.actions.now c.loop-a.a-index _ c.loop-a-test.true _ w.in-default.ensures) in
+      | in_default w ↦
+          let e = ap length (path_more c.args.actions.now c.loop-a.a-index _ c.loop-a-test.true _ w.in_default.ensures) in
           (omega (arith, w.count-is, c.loop-a.invariant.0), omega (arith, w.count-is, c.loop-a.invariant.1))
     ]
 

@@ -10,7 +10,7 @@ pub loop-row-preserved : goal.loop-row-preserved
 loop-row-preserved c =
     let ix = indexed c.args.index.now in
     let rows = map placed_row c.args.rows.now in
-    let added = c.in-ok-add-row.ensures ∙ ap (λ r. add_row ix rows (station c.loop-row.tables) (placed_row r)) c.row-item.is in
+    let added = c.in_ok-add_row.ensures ∙ ap (λ r. add_row ix rows (station c.loop-row.tables) (placed_row r)) c.row-item.is in
     ap (λ t. add_rows ix rows t (map placed_row (drop (c.loop-row.row-index + 1) c.args.rows.now))) added ∙ added_more placed_row _ ix rows _ _ _ _ c.loop-row-test.true c.loop-row.invariant
 
 pub returns : goal.returns

@@ -9,4 +9,4 @@ use Rattle.reading.proofs.whole.fill.Goals as goal
 pub returns : goal.returns
 returns c =
     let P : Outcome Sofar → Type 0 = λ o. Fills c.judge.result (station c.judge.new.tables) (judged (length c.args.text.now) o) in
-    subst P (ap (λ xs. done (map placed_row xs)) c.as-slice.ensures.value ∙ c.in-ok-rows.ensures) c.judge.ensures
+    subst P (ap (λ xs. done (map placed_row xs)) c.as_slice.ensures.value ∙ c.in_ok-rows.ensures) c.judge.ensures

@@ -8,5 +8,5 @@ use Rattle.route_rules.proofs.path.rule_21.Goals as goal
 pub returns : goal.returns
 returns c =
     let s = station c.args.tables.now in
-    let v = c.first-breach.ensures ∙ ap (first_failing _) c.route-count.ensures in
+    let v = c.first_breach.ensures ∙ ap (first_failing _) c.route_count.ensures in
     record { value = v; first = subst (Breach21 s) (sym v) (first_21 s) }

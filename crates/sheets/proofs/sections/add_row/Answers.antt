@@ -8,8 +8,8 @@ use Rattle.sheets.specs.Sections.{a_turn}
 use Rattle.sheets.proofs.Turns.{row_added}
 use Rattle.sheets.proofs.sections.add_row.Goals as goal
 
-pub returns-in-ok-push : goal.returns-in-ok-push
-returns-in-ok-push c =
-    let same = ap (λ xs. a_turn c.args.part (map placed_row xs) (tokens_ahead c.args.reader.now)) c.as-slice.ensures.value in
+pub returns-in_ok-push : goal.returns-in_ok-push
+returns-in_ok-push c =
+    let same = ap (λ xs. a_turn c.args.part (map placed_row xs) (tokens_ahead c.args.reader.now)) c.as_slice.ensures.value in
     let was = ap (λ o. got (option_map placed_row o) (tokens_ahead c.turn.new.reader)) (sym c.in-Some.is) in
-    row_added c.args.part _ (tokens_ahead c.args.reader.now) _ _ _ (was ∙ c.in-ok-next.ensures ∙ same) (ap (map placed_row) c.in-ok-push.ensures.items ∙ map_push _ _ _)
+    row_added c.args.part _ (tokens_ahead c.args.reader.now) _ _ _ (was ∙ c.in_ok-next.ensures ∙ same) (ap (map placed_row) c.in_ok-push.ensures.items ∙ map_push _ _ _)

@@ -9,5 +9,5 @@ use Rattle.steps.proofs.lists.next_pair.Goals as goal
 pub returns-in-Some-picked : goal.returns-in-Some-picked
 returns-in-Some-picked c =
     let few : length (map placed_pair c.args.taken.now) < most c.args.list =
-    room_left c.args.list (map placed_pair c.args.taken.now) (placed c.in-Some.thing) (sym c.if-too-many.ensures) in
+    room_left c.args.list (map placed_pair c.args.taken.now) (placed c.in-Some.thing) (sym c.if-too_many.ensures) in
     record { value = search rules; few = simp length-map at few }

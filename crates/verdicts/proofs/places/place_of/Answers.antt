@@ -7,7 +7,7 @@ use Rattle.verdicts.proofs.places.place_of.Goals.{then-b-eq10, else-b-eq10}
 
 pub loop-b-preserved : goal.loop-b-preserved
 loop-b-preserved c =
-    let t = c.split-at.result.0.now in
+    let t = c.split_at.result.0.now in
     let i = c.loop-b.b-index in
     let h = c.loop-b-test.true in
     elim c.if-b-eq10.branch [
@@ -23,6 +23,6 @@ loop-b-preserved c =
 
 pub returns : goal.returns
 returns c =
-    let front = c.split-at.ensures.front ∙ ap (λ n. take n c.args.text.now) c.min.ensures in
-    let whole = whole_front c.args.text.now c.split-at.result.0.now c.args.at c.loop-b.b-index front c.loop-b-test.false in
+    let front = c.split_at.ensures.front ∙ ap (λ n. take n c.args.text.now) c.min.ensures in
+    let whole = whole_front c.args.text.now c.split_at.result.0.now c.args.at c.loop-b.b-index front c.loop-b-test.false in
     record { lines = c.loop-b.invariant.2 ∙ ap (count_by ends_line) whole; octets = c.loop-b.invariant.3 ∙ ap (suffix_len within_line) whole }

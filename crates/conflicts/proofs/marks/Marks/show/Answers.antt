@@ -11,7 +11,7 @@ loop-k-init c = (refl, refl, shows_none _ _)
 pub loop-k-preserved : goal.loop-k-preserved
 loop-k-preserved c =
     let s = station c.args.tables.now in
-    let e = c.segment-of-t.ensures ∙ ap (segment_of s) c.on-path.ensures in
+    let e = c.segment_of-t.ensures ∙ ap (segment_of s) c.on_path.ensures in
     elim c.if-t-lt64.branch [
       | then-t-lt64 w ↦ (
         ap (λ m. m.saved) w.self-is ∙ c.loop-k.invariant.0,
@@ -27,9 +27,9 @@ loop-k-preserved c =
 
 pub returns : goal.returns
 returns c =
-    let n : c.loop-k.k ≡ c.path-length-k-end.result = omega arith in
+    let n : c.loop-k.k ≡ c.path_length-k-end.result = omega arith in
     record {
-      shows = shows_all _ _ _ _ (n ∙ c.path-length-k-end.ensures) c.loop-k.invariant.2;
+      shows = shows_all _ _ _ _ (n ∙ c.path_length-k-end.ensures) c.loop-k.invariant.2;
       saved = c.loop-k.invariant.0;
       lender = c.loop-k.invariant.1;
     }

@@ -8,16 +8,16 @@ use Rattle.holding.proofs.Answered.{denied, unchanged}
 use Rattle.holding.proofs.Points.{counts_driven, drives_seen, refusal_same, refused_drive}
 use Rattle.delay.proofs.calls.DelayTrackside.drive.Goals as goal
 
-pub returns-in-err-p : goal.returns-in-err-p
-returns-in-err-p g c =
+pub returns-in_err-p : goal.returns-in_err-p
+returns-in_err-p g c =
     let d = c.args.self.now in
     let m = g.T.Trackside.meaning d.below in
     let s = laid c.args.station.now in
     let hs = d.holding.counts in
     let offs = d.holding.derailed in
     let i = c.args.point in
-    let e = c.in-err-p.field-0.0 in
-    let R = denied (point_refusal s m i) e (state_at m i) c.in-err-p.ensures in
+    let e = c.in_err-p.field-0.0 in
+    let R = denied (point_refusal s m i) e (state_at m i) c.in_err-p.ensures in
     let p = err_from_is_err_and c.from-residual.result c.from-residual.ensures.1 in
     rw (p.1, p.2) (record {
       every = refused_drive s (seen m hs offs) i c.args.to e (refusal_same s m hs offs i ∙ R);
@@ -35,9 +35,9 @@ returns g c =
     let offs = d.holding.derailed in
     let i = c.args.point in
     let to = c.args.to in
-    let q = c.in-ok-p.p in
-    let ok = c.in-ok-p.ensures in
-    let did = c.in-ok-drive.ensures in
+    let q = c.in_ok-p.p in
+    let ok = c.in_ok-p.ensures in
+    let did = c.in_ok-drive.ensures in
     let few = g.met.T.Trackside.few d.below in
     let long = d.holding.points in
     let h = c.driven.new.self in

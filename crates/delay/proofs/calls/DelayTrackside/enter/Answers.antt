@@ -8,17 +8,17 @@ use Rattle.holding.proofs.Answered.{changed, denied, granted, unchanged}
 use Rattle.holding.proofs.Trains.{enter_denied, enters_seen}
 use Rattle.delay.proofs.calls.DelayTrackside.enter.Goals as goal
 
-pub returns-in-err-enter : goal.returns-in-err-enter
-returns-in-err-enter g c =
+pub returns-in_err-enter : goal.returns-in_err-enter
+returns-in_err-enter g c =
     let d = c.args.self.now in
     let m = g.T.Trackside.meaning d.below in
     let s = laid c.args.station.now in
     let hs = d.holding.counts in
     let offs = d.holding.derailed in
     let n = g.T.Trackside.meaning c.enter.new.self in
-    let e = c.in-err-enter.field-0.0 in
+    let e = c.in_err-enter.field-0.0 in
     let x = enter_step s m c.args.train c.args.signal in
-    let did = c.in-err-enter.ensures in
+    let did = c.in_err-enter.ensures in
     let p = err_from_is_err_and c.from-residual.result c.from-residual.ensures.1 in
     rw (p.1, p.2) (record {
       every = enter_denied s m hs offs c.args.train c.args.signal e n did;
@@ -36,7 +36,7 @@ returns g c =
     let offs = d.holding.derailed in
     let n = g.T.Trackside.meaning c.enter.new.self in
     let x = enter_step s m c.args.train c.args.signal in
-    let did = c.in-ok-enter.ensures in
+    let did = c.in_ok-enter.ensures in
     let long = d.holding.trains in
     let up = enters_seen s m hs offs c.args.train c.args.signal n long did in
     let h = c.mark.new.self in

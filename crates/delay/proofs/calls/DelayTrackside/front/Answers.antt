@@ -15,16 +15,16 @@ use Rattle.delay.specs.Delays.{kept_off}
 use Rattle.delay.proofs.Chosen.{goes, keeps}
 use Rattle.delay.proofs.calls.DelayTrackside.front.Goals as goal
 
-pub returns-in-err-t : goal.returns-in-err-t
-returns-in-err-t g c =
+pub returns-in_err-t : goal.returns-in_err-t
+returns-in_err-t g c =
     let d = c.args.self.now in
     let m = g.T.Trackside.meaning d.below in
     let s = laid c.args.station.now in
     let hs = d.holding.counts in
     let offs = d.holding.derailed in
     let i = c.args.train in
-    let e = c.in-err-t.field-0.0 in
-    let R = denied (train_refusal s m i) e (train_at m i) c.in-err-t.ensures in
+    let e = c.in_err-t.field-0.0 in
+    let R = denied (train_refusal s m i) e (train_at m i) c.in_err-t.ensures in
     let up = refused_move s m hs offs i (λ x. x.passed) (front_train s) (seen m hs offs) e (train_refusal_same s m hs offs i ∙ R) in
     let here = refused_move s m hs offs i (λ x. x.passed) (front_train s) m e R in
     let stays : Fronts s m i (Err e) m = record { answers = here.0; leaves = here.1 } in
@@ -45,10 +45,10 @@ returns-in-Down g c =
     let offs = d.holding.derailed in
     let i = c.args.train in
     let off = off_at offs i in
-    let t = c.in-ok-t.t in
-    let ok = c.in-ok-t.ensures in
+    let t = c.in_ok-t.t in
+    let ok = c.in_ok-t.ensures in
     let e = c.in-Down.ensures ∙ ap (λ x. course (station x) hs off t) c.tables.ensures.tables in
-    let b = subst (λ x. Becomes x t off (front_train s (seen m hs offs) (marked t off)) (front_train s m t)) (sym e) (front_becomes s c.held-ways.ensures m hs offs t off) in
+    let b = subst (λ x. Becomes x t off (front_train s (seen m hs offs) (marked t off)) (front_train s m t)) (sym e) (front_becomes s c.held_ways.ensures m hs offs t off) in
     let did = c.front.ensures in
     let up = down_move s m hs offs i (λ x. x.passed) (front_train s) t ok d.holding.trains b c.front.result (g.T.Trackside.meaning c.front.new.self) (did.answers, did.leaves) in
     record {
@@ -67,10 +67,10 @@ returns-in-Off g c =
     let offs = d.holding.derailed in
     let i = c.args.train in
     let off = off_at offs i in
-    let t = c.in-ok-t.t in
-    let ok = c.in-ok-t.ensures in
+    let t = c.in_ok-t.t in
+    let ok = c.in_ok-t.ensures in
     let e = c.in-Off.ensures ∙ ap (λ x. course (station x) hs off t) c.tables.ensures.tables in
-    let b = subst (λ x. Becomes x t off (front_train s (seen m hs offs) (marked t off)) (front_train s m t)) (sym e) (front_becomes s c.held-ways.ensures m hs offs t off) in
+    let b = subst (λ x. Becomes x t off (front_train s (seen m hs offs) (marked t off)) (front_train s m t)) (sym e) (front_becomes s c.held_ways.ensures m hs offs t off) in
     let up = off_move s m hs offs i (λ x. x.passed) (front_train s) t ok b in
     record {
       every = record { answers = up.0; leaves = up.1 };
@@ -88,10 +88,10 @@ returns-in-Derails g c =
     let offs = d.holding.derailed in
     let i = c.args.train in
     let off = off_at offs i in
-    let t = c.in-ok-t.t in
-    let ok = c.in-ok-t.ensures in
+    let t = c.in_ok-t.t in
+    let ok = c.in_ok-t.ensures in
     let e = c.in-Derails.ensures ∙ ap (λ x. course (station x) hs off t) c.tables.ensures.tables in
-    let b = subst (λ x. Becomes x t off (front_train s (seen m hs offs) (marked t off)) (front_train s m t)) (sym e) (front_becomes s c.held-ways.ensures m hs offs t off) in
+    let b = subst (λ x. Becomes x t off (front_train s (seen m hs offs) (marked t off)) (front_train s m t)) (sym e) (front_becomes s c.held_ways.ensures m hs offs t off) in
     let up = derail_move s m hs offs i (λ x. x.passed) (front_train s) t ok d.holding.trains b in
     let h = c.mark.new.self in
     record {

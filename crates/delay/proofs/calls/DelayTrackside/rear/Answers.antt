@@ -12,16 +12,16 @@ use Rattle.holding.proofs.Trains.{down_move, off_move, refused_move, train_refus
 use Rattle.delay.proofs.Chosen.{goes}
 use Rattle.delay.proofs.calls.DelayTrackside.rear.Goals as goal
 
-pub returns-in-err-t : goal.returns-in-err-t
-returns-in-err-t g c =
+pub returns-in_err-t : goal.returns-in_err-t
+returns-in_err-t g c =
     let d = c.args.self.now in
     let m = g.T.Trackside.meaning d.below in
     let s = laid c.args.station.now in
     let hs = d.holding.counts in
     let offs = d.holding.derailed in
     let i = c.args.train in
-    let e = c.in-err-t.field-0.0 in
-    let R = denied (train_refusal s m i) e (train_at m i) c.in-err-t.ensures in
+    let e = c.in_err-t.field-0.0 in
+    let R = denied (train_refusal s m i) e (train_at m i) c.in_err-t.ensures in
     let up = refused_move s m hs offs i (λ x. tt) (λ n. rear_train) (seen m hs offs) e (train_refusal_same s m hs offs i ∙ R) in
     let here = refused_move s m hs offs i (λ x. tt) (λ n. rear_train) m e R in
     let stays : Rears s m i (Err e) m = record { answers = here.0; leaves = here.1 } in
@@ -41,8 +41,8 @@ returns-in-Down g c =
     let offs = d.holding.derailed in
     let i = c.args.train in
     let off = off_at offs i in
-    let t = c.in-ok-t.t in
-    let ok = c.in-ok-t.ensures in
+    let t = c.in_ok-t.t in
+    let ok = c.in_ok-t.ensures in
     let e = c.in-Down.ensures in
     let b = subst (λ x. Becomes x t off (rear_train (marked t off)) (rear_train t)) (sym e) (rear_becomes t off) in
     let did = c.rear.ensures in
@@ -62,8 +62,8 @@ returns-in-Off g c =
     let offs = d.holding.derailed in
     let i = c.args.train in
     let off = off_at offs i in
-    let t = c.in-ok-t.t in
-    let ok = c.in-ok-t.ensures in
+    let t = c.in_ok-t.t in
+    let ok = c.in_ok-t.ensures in
     let e = c.in-Off.ensures in
     let b = subst (λ x. Becomes x t off (rear_train (marked t off)) (rear_train t)) (sym e) (rear_becomes t off) in
     let up = off_move s m hs offs i (λ x. tt) (λ n. rear_train) t ok b in

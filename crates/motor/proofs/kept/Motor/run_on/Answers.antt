@@ -7,11 +7,11 @@ pub returns : goal.returns
 returns c =
     let m = c.args.self.now in
     let n = c.args.n in
-    let p = c.run-at-p.result in
-    let v = c.run-at-p.ensures.value in
-    let e = c.saturating-sub-left.ensures in
+    let p = c.run_at-p.result in
+    let v = c.run_at-p.ensures.value in
+    let e = c.saturating_sub-left.ensures in
     record {
-      runs = c.put-run.ensures.runs ∙ ap (λ k. set (runs m) n (a_run p.target k)) e ∙ ap (λ q. set (runs m) n (a_run q.target (less_left q.left))) v;
+      runs = c.put_run.ensures.runs ∙ ap (λ k. set (runs m) n (a_run p.target k)) e ∙ ap (λ q. set (runs m) n (a_run q.target (less_left q.left))) v;
       last = ap (λ k. eqb k 0) (e ∙ ap (λ q. less_left q.left) v);
-      meaning = λ l f. c.put-run.ensures.meaning ∙ settling (of_motor m) n c.saturating-sub-left.result p (c.run-at-p.ensures.state l) f;
+      meaning = λ l f. c.put_run.ensures.meaning ∙ settling (of_motor m) n c.saturating_sub-left.result p (c.run_at-p.ensures.state l) f;
     }

@@ -9,7 +9,7 @@ returns-then-n-len c =
     let v = c.args.self.now.points in
     let long = length-map (vec_items v) state_of in
     let lt : c.args.n < length (map state_of (vec_items v)) = omega (arith, v.ok.0, c.if-n-len.true, c.len.ensures, long) in
-    c.state.ensures ∙ sym (c.run-at.ensures.state lt)
+    c.state.ensures ∙ sym (c.run_at.ensures.state lt)
 
 pub returns-else-n-len : goal.returns-else-n-len
 returns-else-n-len c =

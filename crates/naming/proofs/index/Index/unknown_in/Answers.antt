@@ -11,7 +11,7 @@ returns-in-Some c =
 
 pub loop-pair-preserved : goal.loop-pair-preserved
 loop-pair-preserved c =
-    first_go (unknown_pair (indexed c.args.self.now)) placed_pair _ _ _ c.loop-pair-test.true c.loop-pair.invariant (sym c.in-default.ensures)
+    first_go (unknown_pair (indexed c.args.self.now)) placed_pair _ _ _ c.loop-pair-test.true c.loop-pair.invariant (sym c.in_default.ensures)
 
 pub returns : goal.returns
 returns c = first_end (unknown_pair (indexed c.args.self.now)) placed_pair _ _ c.loop-pair-test.false c.loop-pair.invariant

@@ -4,10 +4,10 @@ use Rattle.text.specs.Ahead.{tokens_ahead, tokens_from, place_of}
 use Rattle.text.proofs.Looks.{comma_passed, comma_left}
 use Rattle.text.proofs.reader.Reader.comma.Goals as goal
 
-pub returns-then-is-comma : goal.returns-then-is-comma
-returns-then-is-comma c =
+pub returns-then-is_comma : goal.returns-then-is_comma
+returns-then-is_comma c =
     record {
-      value = comma_passed c.in-ok-next.next _ _ _ c.in-ok-next.ensures.ahead (sym c.if-is-comma.ensures);
+      value = comma_passed c.in_ok-next.next _ _ _ c.in_ok-next.ensures.ahead (sym c.if-is_comma.ensures);
       same = c.next.ensures.same;
     }
 
@@ -17,6 +17,6 @@ returns c =
     record {
       value =
           ap (λ t. got false (tokens_from t (place_of c.args.self.now))) c.next.ensures.same
-          ∙ comma_left c.in-ok-next.next _ _ _ c.in-ok-next.ensures.ahead (sym c.if-is-comma.ensures);
+          ∙ comma_left c.in_ok-next.next _ _ _ c.in_ok-next.ensures.ahead (sym c.if-is_comma.ensures);
       same = c.next.ensures.same;
     }
