@@ -5,7 +5,7 @@ ghost use Rattle.station.specs.Station.{station};
 ghost use Rattle.track.specs.Meaning.{laid};
 
 use alike::Same;
-use check::Accepted;
+use acceptance::Accepted;
 use lookups::{normal_tests, reverse_tests};
 use states::States;
 use station::{Lock, PointTest, Position, Tables};

@@ -6,7 +6,7 @@ ghost use Rattle.firsts.specs.Lists.{all};
 ghost use Rattle.track.specs.Meaning.{laid};
 
 use crate::tests::Test;
-use check::Accepted;
+use acceptance::Accepted;
 use states::States;
 use track::Trackside;
 

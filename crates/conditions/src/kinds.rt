@@ -11,7 +11,7 @@ use crate::asks::{is_clear, is_free, is_unset, lies, point_told, row_for};
 use crate::firsts_of_rows::all_hold;
 use crate::tests::Test;
 use alike::Same;
-use check::Accepted;
+use acceptance::Accepted;
 use states::States;
 use station::{ActivationTest, Lock, PointTest, Position, ReleaseTest, RequestTest};
 use track::Trackside;

@@ -5,7 +5,7 @@ ghost use Rattle.conditions.specs.Weaker.{More};
 ghost use Rattle.station.specs.Station.{Station};
 ghost use Rattle.track.specs.Meaning.{laid};
 
-use check::Accepted;
+use acceptance::Accepted;
 use states::States;
 use track::Trackside;
 

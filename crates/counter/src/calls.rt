@@ -7,7 +7,7 @@ ghost use Rattle.std.proofs.Common.{rules};
 
 use crate::throws::{Counter, one_more};
 use alike::Same;
-use check::Accepted;
+use acceptance::Accepted;
 use station::Position;
 use track::{Aspect, PointState, Refusal, Trackside, Train};
 

@@ -5,7 +5,7 @@ ghost use Rattle.track.specs.Calls.{point_refusal};
 ghost use Rattle.track.specs.Meaning.{laid};
 ghost use Rattle.track.specs.Refusals.{answer};
 
-use check::Accepted;
+use acceptance::Accepted;
 use track::{Refusal, Trackside};
 
 // A track has no more points.

@@ -7,7 +7,7 @@ ghost use Rattle.track.specs.Meaning.{laid};
 ghost use Rattle.holding.proofs.Eaches.{length_each};
 
 use crate::delays::Delay;
-use check::Accepted;
+use acceptance::Accepted;
 use holding::{Course, held_ways};
 use station::Position;
 use track::{Aspect, PointState, Refusal, Trackside, Train};

@@ -3,8 +3,8 @@ use Rattle.std.proofs.Common.{◌≡◌, ℕ, ◌<◌, Bool, true, false, cond, 
 use Rattle.std.proofs.lemmas.Bool.Decides.{Decides-and, Decides-eqb, Decides-not, eqb_tells, nat_tests}
 use Rattle.std.proofs.lemmas.Bool.{both_ways}
 use Rattle.firsts.proofs.Below.{decides_any_below}
-use Rattle.check.specs.Consequences.{Consequences}
-use Rattle.check.specs.Soundness.{Sound}
+use Rattle.acceptance.specs.Consequences.{Consequences}
+use Rattle.acceptance.specs.Soundness.{Sound}
 use Rattle.station.specs.Numbers.{point_at, way_at}
 use Rattle.station.specs.Station.{Station}
 use Rattle.station.specs.declared.tables.Setting.{Setting}

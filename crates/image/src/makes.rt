@@ -7,7 +7,7 @@ ghost use Rattle.station.specs.Station.{station};
 ghost use Rattle.track.specs.Meaning.{laid};
 
 use crate::parts::{point_part, signal_part, train_part};
-use check::Accepted;
+use acceptance::Accepted;
 use lookups::{joint_count, point_count, signal_count};
 use motor::{MOST_POINTS, Motor};
 use octets::{PointRead, SignalRead, TrainRead, each, framed, rest_of};

@@ -6,7 +6,7 @@ ghost use Rattle.track.specs.Meaning.{laid};
 
 use crate::machine::Machine;
 use calls::{Answer, Call};
-use check::Accepted;
+use acceptance::Accepted;
 use states::Denial;
 use track::Trackside;
 

@@ -9,7 +9,7 @@ ghost use Rattle.track.specs.Meaning.{laid};
 
 use crate::machine::Machine;
 use crate::opening::matches;
-use check::Accepted;
+use acceptance::Accepted;
 use conditions::{Test, first_failing};
 use lookups::{actions, activation_tests, request_tests, route_count};
 use passing::{is_declared, release_row, signal_of};

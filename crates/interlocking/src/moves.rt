@@ -9,7 +9,7 @@ ghost use Rattle.track.specs.Meaning.{laid};
 use crate::grants::show;
 use crate::machine::Machine;
 use crate::opening::matches;
-use check::Accepted;
+use acceptance::Accepted;
 use passing::{note_from, pass_routes};
 use states::Denial;
 use track::{Aspect, Front, Refusal, Trackside, Train};

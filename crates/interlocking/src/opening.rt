@@ -7,7 +7,7 @@ ghost use Rattle.track.specs.Calls.{place_answer};
 ghost use Rattle.track.specs.Meaning.{fits, laid};
 
 use crate::machine::Machine;
-use check::Accepted;
+use acceptance::Accepted;
 use firsts::{Claim, some_below};
 use lookups::signal_count;
 use passing::has_slots;

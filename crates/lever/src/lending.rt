@@ -8,7 +8,7 @@ ghost use Rattle.track.specs.Meaning.{at_rest, laid, put, with_train};
 ghost use Rattle.track.specs.contracts.states.Train.{the_row as train-row};
 
 use crate::kept::Lever;
-use check::Accepted;
+use acceptance::Accepted;
 use lookups::{point_count, signal_count};
 use standing::TRAINS;
 use station::Position;

@@ -5,7 +5,7 @@ ghost use Rattle.track.specs.Meaning.{at_rest, laid};
 
 use crate::kept::Motor;
 use crate::runs::Run;
-use check::Accepted;
+use acceptance::Accepted;
 use lookups::{point_count, signal_count};
 use standing::TRAINS;
 use station::Position;

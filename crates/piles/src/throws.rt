@@ -6,7 +6,7 @@ ghost use Rattle.motor.specs.Motors.{of_motor};
 ghost use Rattle.piles.specs.Piles.{Throws, other_side};
 ghost use Rattle.track.specs.Meaning.{laid};
 
-use check::Accepted;
+use acceptance::Accepted;
 use counter::Counter;
 use delay::Delay;
 use lever::Lever;

@@ -8,7 +8,7 @@ ghost use Rattle.safety.specs.Histories.{History};
 ghost use Rattle.track.specs.Meaning.{Meaning, laid};
 
 use calls::{Answer, Call};
-use check::Accepted;
+use acceptance::Accepted;
 use interlocking::Machine;
 use states::Denial;
 use std::alloc::Global;

@@ -9,8 +9,8 @@ use Rattle.station.specs.Paths.{path_length, on_path}
 use Rattle.station.specs.declared.tests.ActivationTest.{ActivationTest}
 use Rattle.station.specs.declared.tests.ActivationTest.TheVariants as activation
 use Rattle.station.specs.declared.tests.Lock.TheVariants.{Subroute}
-use Rattle.check.specs.Soundness.{Sound}
-use Rattle.check.specs.Consequences.{Consequences}
+use Rattle.acceptance.specs.Soundness.{Sound}
+use Rattle.acceptance.specs.Consequences.{Consequences}
 use Rattle.track.specs.Meaning.{state_at, train_at, with_aspect}
 use Rattle.track.specs.Ways.{is_stop}
 use Rattle.track.specs.declared.states.Aspect.{Aspect}

@@ -2,7 +2,7 @@
 use Rattle.std.proofs.Common.{◌≡◌, true, not, [], ◌++◌, length, sym, refl, subst}
 use Rattle.station.specs.Station.{Station}
 use Rattle.station.specs.declared.tests.Lock.TheVariants.{Subroute}
-use Rattle.check.specs.Consequences.{Covering}
+use Rattle.acceptance.specs.Consequences.{Covering}
 use Rattle.track.specs.Meaning.{state_at, aspect_at, train_at, fits}
 use Rattle.track.specs.Ways.{is_stop}
 use Rattle.states.specs.Routes.{is_unset, is_active}

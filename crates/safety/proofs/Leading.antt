@@ -4,7 +4,7 @@ use native.Mathlib.Decide.{ℕ_discrete}
 use Rattle.station.specs.Station.{Station}
 use Rattle.station.specs.Numbers.{way_at}
 use Rattle.station.specs.Subroutes.{against, end, start, way_of}
-use Rattle.check.specs.Consequences.{Consequences}
+use Rattle.acceptance.specs.Consequences.{Consequences}
 use Rattle.track.specs.Ways.{Fits, LeadsOut, other_end, way_out}
 use Rattle.track.proofs.Fitting.{leads_out}
 use Rattle.conditions.specs.States.{State}

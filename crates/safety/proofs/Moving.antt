@@ -6,8 +6,8 @@ use Rattle.station.specs.Joints.{across}
 use Rattle.station.specs.declared.tables.Beyond.TheVariants as beyond
 use Rattle.station.specs.declared.tests.Lock.{Lock}
 use Rattle.station.specs.declared.tests.Lock.TheVariants.{Zone, Subroute}
-use Rattle.check.specs.Soundness.{Sound}
-use Rattle.check.specs.Consequences.{Consequences, Covering}
+use Rattle.acceptance.specs.Soundness.{Sound}
+use Rattle.acceptance.specs.Consequences.{Consequences, Covering}
 use Rattle.track.specs.Meaning.{aspect_at, state_at, train_at, with_aspect, with_train}
 use Rattle.track.specs.Trains.{come_in, gone_on}
 use Rattle.track.specs.Ways.{governor, is_stop, way_out}

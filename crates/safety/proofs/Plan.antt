@@ -5,7 +5,7 @@ use Rattle.station.specs.declared.tables.Beyond.{Beyond}
 use Rattle.station.specs.declared.tables.Beyond.TheVariants.{Segment, Outside, BufferStop}
 use Rattle.station.specs.declared.tables.Setting.{Setting}
 use Rattle.layout_rules.specs.Ways.{Names}
-use Rattle.check.specs.Consequences.{Lie}
+use Rattle.acceptance.specs.Consequences.{Lie}
 
 -- A route's path is `sub r 0` to `sub r (len r - 1)`; `back v` runs the way of v the other way; `signal j x` governs entering x over j.
 pub record Plan : Type 0 where

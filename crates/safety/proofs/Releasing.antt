@@ -11,8 +11,8 @@ use Rattle.station.specs.declared.tests.Lock.{Lock}
 use Rattle.station.specs.declared.tests.Lock.TheVariants.{Zone, Subroute}
 use Rattle.station.specs.declared.tests.ReleaseTest.{ReleaseTest}
 use Rattle.station.specs.declared.tests.ReleaseTest.TheVariants as release
-use Rattle.check.specs.Soundness.{Sound}
-use Rattle.check.specs.Consequences.{Consequences, Covering}
+use Rattle.acceptance.specs.Soundness.{Sound}
+use Rattle.acceptance.specs.Consequences.{Consequences, Covering}
 use Rattle.track.specs.Calls.{settled_so}
 use Rattle.track.specs.Meaning.{a_point, fits, no_state, state_at, train_at, with_point}
 use Rattle.track.specs.Refusals as refusals

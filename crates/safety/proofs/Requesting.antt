@@ -21,8 +21,8 @@ use Rattle.station.specs.declared.tests.RequestTest.{RequestTest}
 use Rattle.station.specs.declared.tests.RequestTest.TheVariants as request
 use Rattle.station.proofs.Alike.{decides_action}
 use Rattle.station.proofs.Paths.{decides_uses}
-use Rattle.check.specs.Soundness.{Sound}
-use Rattle.check.specs.Consequences.{Consequences, Covering}
+use Rattle.acceptance.specs.Soundness.{Sound}
+use Rattle.acceptance.specs.Consequences.{Consequences, Covering}
 use Rattle.track.specs.Meaning.{state_at, train_at, fits}
 use Rattle.track.specs.Trains.{holds}
 use Rattle.track.specs.Ways.{is_stop}

@@ -14,8 +14,8 @@ use Rattle.station.specs.declared.tests.Position.{Position}
 use Rattle.station.proofs.Alike.{decides_signal}
 use Rattle.layout_rules.specs.WayPairs.{ShareJoint}
 use Rattle.route_rules.specs.Signals.{Onward, last_of, past}
-use Rattle.check.specs.Soundness.{Sound}
-use Rattle.check.specs.Consequences.{Consequences, Lie}
+use Rattle.acceptance.specs.Soundness.{Sound}
+use Rattle.acceptance.specs.Consequences.{Consequences, Lie}
 use Rattle.track.specs.Ways.{governs, governor}
 use Rattle.passing.specs.Signals.{signal_of, is_number, from_signal}
 use Rattle.safety.proofs.Plan.{Plan, Ending, Facts}

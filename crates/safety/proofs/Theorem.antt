@@ -9,10 +9,10 @@ use Rattle.station.specs.Station.{Station}
 use Rattle.station.specs.Numbers.{point_at}
 use Rattle.station.specs.Paths.{path, path_length}
 use Rattle.station.specs.Subroutes.{segment_of}
-use Rattle.check.specs.Soundness.{Sound}
-use Rattle.check.specs.Consequences.{Consequences}
-use Rattle.check.proofs.Consequences.{consequences}
-use Rattle.check.proofs.Verdicts.{sound_keeps}
+use Rattle.acceptance.specs.Soundness.{Sound}
+use Rattle.acceptance.specs.Consequences.{Consequences}
+use Rattle.acceptance.proofs.Consequences.{consequences}
+use Rattle.acceptance.proofs.Verdicts.{sound_keeps}
 use Rattle.track.specs.Calls.{place_answer}
 use Rattle.track.specs.Meaning.{Meaning, fits, train_at}
 use Rattle.track.specs.Ways.{is_stop}

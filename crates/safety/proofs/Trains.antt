@@ -5,8 +5,8 @@ use Rattle.std.proofs.lemmas.Bool.{and_from, cond-true, lt-ltb, not_from_false}
 use Rattle.station.specs.Station.{Station}
 use Rattle.station.specs.Numbers.{signal_at}
 use Rattle.station.proofs.Joints.{decides_signalled}
-use Rattle.check.specs.Soundness.{Sound}
-use Rattle.check.specs.Consequences.{Consequences}
+use Rattle.acceptance.specs.Soundness.{Sound}
+use Rattle.acceptance.specs.Consequences.{Consequences}
 use Rattle.track.specs.Calls.{place_answer}
 use Rattle.track.specs.Meaning.{Meaning, aspect_at, fits, train_at, with_aspect, with_train}
 use Rattle.track.specs.Steps.{enter_step, front_step, rear_step, refused, turn_step}

@@ -1,6 +1,6 @@
 -- What holds of trains after every list of calls at an accepted station.
 use Rattle.std.specs.Prelude.{◌≡◌, ℕ, ◌<◌, ◌≤◌, Bool, true, false, ◌⊎◌, List, [], ◌∷◌, ◌++◌, map, length, take, None, MatchOption}
-use Rattle.check.specs.Soundness.{sound}
+use Rattle.acceptance.specs.Soundness.{sound}
 use Rattle.conditions.specs.States.{State}
 use Rattle.calls.specs.Opening.{open_denial, opened}
 use Rattle.calls.specs.Steps.{Steps}

@@ -7,7 +7,7 @@ use Rattle.firsts.proofs.Firsts.{first_is}
 use Rattle.station.specs.declared.tables.Setting.{Setting}
 use Rattle.station.proofs.Alike.{decides_position}
 use Rattle.layout_rules.specs.WayPairs.{ShareJoint}
-use Rattle.check.specs.Consequences.{Consequences}
+use Rattle.acceptance.specs.Consequences.{Consequences}
 use Rattle.station.specs.Station.{Station, WayEntry}
 use Rattle.station.specs.Numbers.{way_at}
 use Rattle.track.specs.Meaning.{Meaning, state_at}

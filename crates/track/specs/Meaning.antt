@@ -1,7 +1,7 @@
 -- What a trackside means: the state of each point, signal and train, by number. There are 16 trains.
 use Rattle.std.specs.Prelude.{ℕ, Bool, true, false, not, ◌&&◌, List, length, replicate, Some, None, Option, ◌==◌, slice_index_or, slice_set}
 use Rattle.firsts.specs.Claims.{any_below}
-use Rattle.check.specs.declared.accepted.Accepted.{Accepted}
+use Rattle.acceptance.specs.declared.accepted.Accepted.{Accepted}
 use Rattle.station.specs.declared.tests.Position.{Position}
 use Rattle.station.specs.declared.tests.Position.TheVariants.{Normal, Reverse}
 use Rattle.station.specs.Station.{Station, station}

@@ -2,7 +2,7 @@
 ghost use Rattle.track.specs.Meaning.{laid};
 ghost use Rattle.track.specs.Ways.{WaysLeadOut, OneFits};
 
-use check::Accepted;
+use acceptance::Accepted;
 
 // Does nothing: its contract is that at most one way fits a train, however the points lie, and that a train leaves by it.
 pub fn one_way_fits(station: &Accepted<'_>)

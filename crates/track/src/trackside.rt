@@ -5,7 +5,7 @@ ghost use Rattle.track.specs.Meaning.{Meaning, laid};
 
 use crate::refusals::Refusal;
 use crate::states::{Aspect, PointState, Train};
-use check::Accepted;
+use acceptance::Accepted;
 use station::Position;
 
 pub trait Trackside {

@@ -1,7 +1,7 @@
 -- What the checker answers to a text.
 use Rattle.std.specs.Prelude.{◌≡◌, ℕ, List, length, Some, None, Option}
-use Rattle.check.specs.declared.breaches.Breach.{Breach}
-use Rattle.check.specs.Breaches.{first_broken}
+use Rattle.acceptance.specs.declared.breaches.Breach.{Breach}
+use Rattle.acceptance.specs.Breaches.{first_broken}
 use Rattle.sheets.specs.Outcomes.{Outcome, done, refused}
 use Rattle.reading.specs.Reading.{reading}
 use Rattle.station.specs.Station.{Station, empty}

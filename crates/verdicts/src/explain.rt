@@ -2,7 +2,7 @@
 use crate::names::Line;
 use crate::places::place_of;
 use crate::verdict::Verdict;
-use check::Breach;
+use acceptance::Breach;
 use station::Tables;
 use std::fmt;
 

@@ -1,6 +1,6 @@
 // The line that the checker prints.
 use crate::verdict::Verdict;
-use check::Breach;
+use acceptance::Breach;
 use station::Tables;
 use std::fmt;
 

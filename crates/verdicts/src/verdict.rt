@@ -6,7 +6,7 @@ ghost use Rattle.reading.specs.Reading.{reading};
 ghost use Rattle.verdicts.specs.Verdicts.{unread_by, checked, verdict, Judges, Holds, WhenRead};
 ghost use Rattle.writing.specs.Written.{Written};
 
-use check::{Breach, Draft};
+use acceptance::{Breach, Draft};
 use rows::ReadingFault;
 use station::Tables;
 use std::alloc::Global;

@@ -1,6 +1,6 @@
 -- What the checker answers to the yard and to each damaged yard: the rule and the things, by number.
 use Rattle.std.specs.Prelude.{◌≡◌}
-use Rattle.check.specs.declared.breaches.Breach.TheVariants.{Joint, Way, Ways, Signal, Path, Signals, Request, Activation, Release, Row, Conflict}
+use Rattle.acceptance.specs.declared.breaches.Breach.TheVariants.{Joint, Way, Ways, Signal, Path, Signals, Request, Activation, Release, Row, Conflict}
 use Rattle.verdicts.specs.declared.verdict.Verdict.TheVariants.{Accepted, Refused}
 use Rattle.verdicts.specs.Verdicts.{verdict}
 use Rattle.yards.specs.Yards.{yard, yard_11, yard_12, yard_13, yard_14, yard_21, yard_22, yard_23, yard_24, yard_25, yard_26, yard_27}

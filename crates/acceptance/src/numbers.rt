@@ -1,6 +1,6 @@
 // The numbers of the rules.
 ghost use Rattle.std.specs.Prelude.{◌≡◌};
-ghost use Rattle.check.specs.Breaches.{number};
+ghost use Rattle.acceptance.specs.Breaches.{number};
 
 use crate::breaches::Breach;
 

@@ -19,9 +19,9 @@ use Rattle.layout_rules.specs.WayPairs.{ShareJoint, Within}
 use Rattle.route_rules.specs.Path.{SoundPath}
 use Rattle.route_rules.specs.Request.{action_at, Drives}
 use Rattle.conflicts.specs.Conflicts.{Meets}
-use Rattle.check.specs.Soundness.{Sound, sound}
-use Rattle.check.specs.Consequences.{Lie, Covering, WayFacts, PathFacts, SignalFacts, RowFacts, Consequences}
-use Rattle.check.proofs.Verdicts.{sound_keeps}
+use Rattle.acceptance.specs.Soundness.{Sound, sound}
+use Rattle.acceptance.specs.Consequences.{Lie, Covering, WayFacts, PathFacts, SignalFacts, RowFacts, Consequences}
+use Rattle.acceptance.proofs.Verdicts.{sound_keeps}
 
 setting_same : (x y : Setting) → x.point ≡ y.point → x.position ≡ y.position → x ≡ y
 setting_same x y p q =

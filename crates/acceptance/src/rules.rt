@@ -1,7 +1,7 @@
 // The rules in their order.
 ghost use Rattle.std.specs.Prelude.{◌≡◌};
 ghost use Rattle.station.specs.Station.{station};
-ghost use Rattle.check.specs.Breaches.{refusal, layout_breach, route_breach, lock_breach, conflict_breach, first_broken};
+ghost use Rattle.acceptance.specs.Breaches.{refusal, layout_breach, route_breach, lock_breach, conflict_breach, first_broken};
 
 use crate::breaches::Breach;
 use conflicts::rule_27;

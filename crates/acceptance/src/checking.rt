@@ -1,8 +1,8 @@
 // The check.
 ghost use Rattle.std.specs.Prelude.{◌≡◌, Some, None, MatchResult};
 ghost use Rattle.station.specs.Station.{station};
-ghost use Rattle.check.specs.Breaches.{first_broken};
-ghost use Rattle.check.specs.Soundness.{Sound, FirstBroken};
+ghost use Rattle.acceptance.specs.Breaches.{first_broken};
+ghost use Rattle.acceptance.specs.Soundness.{Sound, FirstBroken};
 
 use crate::accepted::Accepted;
 use crate::breaches::Breach;

@@ -14,8 +14,8 @@ use Rattle.route_rules.specs.Activation.{breach_24}
 use Rattle.lock_rules.specs.Release.{breach_25}
 use Rattle.lock_rules.specs.Points.{breach_26}
 use Rattle.conflicts.specs.Conflicts.{breach_27}
-use Rattle.check.specs.declared.breaches.Breach.{Breach}
-use Rattle.check.specs.declared.breaches.Breach.TheVariants.{Joint, Way, Ways, Signal, Path, Signals, Request, Activation, Release, Row, Conflict}
+use Rattle.acceptance.specs.declared.breaches.Breach.{Breach}
+use Rattle.acceptance.specs.declared.breaches.Breach.TheVariants.{Joint, Way, Ways, Signal, Path, Signals, Request, Activation, Release, Row, Conflict}
 
 -- what a breach names
 pub data Thing : Type 0 where

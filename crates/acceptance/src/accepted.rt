@@ -1,7 +1,7 @@
 // Tables that have passed the check.
 ghost use Rattle.std.specs.Prelude.{◌≡◌, true};
 ghost use Rattle.station.specs.Station.{station};
-ghost use Rattle.check.specs.Soundness.{sound};
+ghost use Rattle.acceptance.specs.Soundness.{sound};
 
 use station::Tables;
 

@@ -1,6 +1,6 @@
 use Rattle.std.proofs.Common.{sym, refl, rules}
-use Rattle.check.proofs.Verdicts.{sound_none, broken_some}
-use Rattle.check.proofs.checking.Draft.check.Goals as goal
+use Rattle.acceptance.proofs.Verdicts.{sound_none, broken_some}
+use Rattle.acceptance.proofs.checking.Draft.check.Goals as goal
 
 pub returns-in-Ok : goal.returns-in-Ok
 returns-in-Ok c =

@@ -1,7 +1,7 @@
 // What holds of every accepted station.
 ghost use Rattle.station.specs.Station.{station};
-ghost use Rattle.check.specs.Consequences.{Consequences};
-ghost use Rattle.check.specs.Soundness.{Sound};
+ghost use Rattle.acceptance.specs.Consequences.{Consequences};
+ghost use Rattle.acceptance.specs.Soundness.{Sound};
 
 use crate::accepted::Accepted;
 

@@ -15,9 +15,9 @@ use Rattle.route_rules.specs.Activation.{SoundActivation}
 use Rattle.lock_rules.specs.Release.{Kept25}
 use Rattle.lock_rules.specs.Points.{Kept26}
 use Rattle.conflicts.specs.Conflicts.{Kept27, FirstConflict}
-use Rattle.check.specs.declared.breaches.Breach.{Breach}
-use Rattle.check.specs.declared.breaches.Breach.TheVariants.{Joint, Way, Ways, Signal, Path, Signals, Request, Activation, Release, Row, Conflict}
-use Rattle.check.specs.Breaches.{first_broken}
+use Rattle.acceptance.specs.declared.breaches.Breach.{Breach}
+use Rattle.acceptance.specs.declared.breaches.Breach.TheVariants.{Joint, Way, Ways, Signal, Path, Signals, Request, Activation, Release, Row, Conflict}
+use Rattle.acceptance.specs.Breaches.{first_broken}
 
 abbrev pub Rule11 : Station → Type 0
 Rule11 s = (j : ℕ) → j < length s.joints → Parts s j

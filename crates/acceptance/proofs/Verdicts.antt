@@ -18,10 +18,10 @@ use Rattle.lock_rules.specs.Points.{breach_26, Breach26}
 use Rattle.lock_rules.proofs.Told.{first_25, first_26}
 use Rattle.conflicts.specs.Conflicts.{breach_27, Breach27}
 use Rattle.conflicts.proofs.Told.{first_27}
-use Rattle.check.specs.declared.breaches.Breach.{Breach}
-use Rattle.check.specs.declared.breaches.Breach.TheVariants.{Joint, Way, Ways, Signal, Path, Signals, Request, Activation, Release, Row, Conflict}
-use Rattle.check.specs.Breaches.{by_two, by_three, layout_breach, route_breach, lock_breach, conflict_breach, first_broken}
-use Rattle.check.specs.Soundness.{Rule25, Rule26, SoundLayout, SoundRoutes, Sound, sound, FirstBroken}
+use Rattle.acceptance.specs.declared.breaches.Breach.{Breach}
+use Rattle.acceptance.specs.declared.breaches.Breach.TheVariants.{Joint, Way, Ways, Signal, Path, Signals, Request, Activation, Release, Row, Conflict}
+use Rattle.acceptance.specs.Breaches.{by_two, by_three, layout_breach, route_breach, lock_breach, conflict_breach, first_broken}
+use Rattle.acceptance.specs.Soundness.{Rule25, Rule26, SoundLayout, SoundRoutes, Sound, sound, FirstBroken}
 
 -- one search after another
 chain : {X : Type 0} (P Q : Type 0) (F : X → Type 0) (x y : Option X) → MatchOption x P F → (P → MatchOption y Q F) → MatchOption (or_else x y) Q F

@@ -1,7 +1,0 @@
-use Rattle.check.proofs.Consequences.{consequences}
-use Rattle.check.proofs.Verdicts.{sound_keeps}
-use Rattle.check.proofs.accepted.Accepted.facts.Goals as goal
-
-pub returns : goal.returns
-returns c =
-    record { rules = sound_keeps _ c.args.self.now.ok; follows = consequences _ c.args.self.now.ok }
