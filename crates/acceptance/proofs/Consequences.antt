@@ -1,6 +1,7 @@
 -- What follows from the rules.
 use Rattle.std.proofs.Common.{◌≡◌, ℕ, suc, ◌-◌, ◌/◌, ◌<◌, Bool, true, false, cond, ◌⊎◌, length, Contains, sym, refl, ap, ◌∙◌, subst, inl, inr, ⊎_elim, arith}
 use Rattle.std.proofs.lemmas.Bool.{cases_order, eq-eqb, ne_eqb, cond-true, cond-false}
+use Rattle.firsts.proofs.Elements.{found_at}
 use Rattle.station.specs.declared.tests.Position.{Position}
 use Rattle.station.specs.declared.tests.Lock.{Lock}
 use Rattle.station.specs.declared.tests.Lock.TheVariants.{Zone, Subroute}
@@ -138,15 +139,17 @@ module _ (s : Station) (keeps : Sound s) where
 
     one_side : (p : ℕ) (x y : Position) → Contains (route_at s r).actions (Drive p x) → Contains (route_at s r).actions (Drive p y) → x ≡ y
     one_side p x y h g =
-        let e = one_place p h.0 g.0 h.1 g.1 (driven_at p x _ (h.2 (Set 0))) (driven_at p y _ (g.2 (Set 0))) in
-        side_inside p x y (sym (h.2 (Set 0)) ∙ ap (action_at (route_at s r).actions) e ∙ g.2 (Set 0))
+        let at_x : action_at (route_at s r).actions h.0 ≡ Drive p x = found_at (route_at s r).actions (Drive p x) h (Set 0) in
+        let at_y : action_at (route_at s r).actions g.0 ≡ Drive p y = found_at (route_at s r).actions (Drive p y) g (Set 0) in
+        let e = one_place p h.0 g.0 h.1 g.1 (driven_at p x _ at_x) (driven_at p y _ at_y) in
+        side_inside p x y (sym at_x ∙ ap (action_at (route_at s r).actions) e ∙ at_y)
 
     -- a used subroute stands on the path of some route
     guarded : (u : ℕ) → Used s u → Meets s r (segment_of s u) → RequestGuards s (route_at s r).tests u
     guarded u h m =
         let o = h.0 in
         let place = h.2 in
-        let e : on_path s o place.0 ≡ u = place.2 0 in
+        let e : on_path s o place.0 ≡ u = found_at (path s o) u place 0 in
         subst (RequestGuards s (route_at s r).tests) e (keeps.rule_27 r o within_routes h.1 place.0 place.1 (subst (λ v. Meets s r (segment_of s v)) (sym e) m))
 
     row_facts : RowFacts s r
@@ -159,7 +162,7 @@ module _ (s : Station) (keeps : Sound s) where
         }
 
   known : (u : ℕ) → Used s u → u < subroutes s
-  known u h = subst (λ v. v < subroutes s) (h.2.2 0) ((keeps.routes.rule_21 h.0 h.1).runs h.2.0 h.2.1)
+  known u h = subst (λ v. v < subroutes s) (found_at (path s h.0) u h.2 0) ((keeps.routes.rule_21 h.0 h.1).runs h.2.0 h.2.1)
 
   frees : (free : Lock → Bool) → Covering s free → (l : Lock) (u : ℕ) → Guards s u l → free l ≡ true → free (Subroute u) ≡ true
   frees free cover (Zone z) u g e = cover z u g e

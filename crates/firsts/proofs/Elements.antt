@@ -1,10 +1,14 @@
 -- Tests of every element and of some element of a list: the steps of a loop, and what they tell.
 use Rattle.std.proofs.Common.{◌≡◌, ℕ, ◌+◌, ◌<◌, ◌≤◌, Bool, true, false, ◌&&◌, ◌||◌, List, [], ◌∷◌, map, length, get_or, drop, Decides, All, Contains, sym, refl, ap, ◌∙◌, subst}
 use Rattle.std.specs.List.{HoldsAt}
-use Rattle.std.proofs.lemmas.List.{at_drop_more, at_drop_all}
+use Rattle.std.proofs.lemmas.List.{at_drop_more, at_drop_all, get_or_default}
 use Rattle.std.proofs.lemmas.Bool.Decides.{Decides-by_and, Decides-by_or, Decides-like}
 use Rattle.std.proofs.lemmas.List.Elements.{Contains-get_or, All-contains, All-nil, All-weaker, All-contains_itself, Contains-from_at, at_from_Contains}
 use Rattle.firsts.specs.Lists.{all, any}
+
+-- the place of an element holds it, whatever is read past the end
+pub found_at : {X : Type 0} (xs : List X) (x : X) (h : Contains xs x) (d : X) → get_or xs h.0 d ≡ x
+found_at xs x h d = get_or_default xs h.0 d x h.1 ∙ h.2
 
 -- a test of every element tells what its parts tell
 pub decides_all : {X : Type 0} {p : X → Bool} (P : X → Type 0) → ((x : X) → Decides (p x) (P x)) → (xs : List X) → Decides (all p xs) (All P xs)
