@@ -4,8 +4,8 @@ ghost use Rattle.conditions.specs.Tests.{is_clear, is_free, lies, point_told, ro
 ghost use Rattle.station.specs.Station.{station};
 ghost use Rattle.track.specs.Meaning.{laid};
 
-use alike::Same;
 use acceptance::Accepted;
+use alike::Same;
 use lookups::{normal_tests, reverse_tests};
 use states::States;
 use station::{Lock, PointTest, Position, Tables};

@@ -5,13 +5,15 @@ ghost use Rattle.conditions.specs.Tests.{activation_holds, movable, point_holds,
 ghost use Rattle.track.specs.Meaning.{laid};
 ghost use Rattle.std.proofs.Common.{rules};
 ghost use Rattle.station.specs.declared.tests.RequestTest.TheVariants.{Unset, Movable, Free};
-ghost use Rattle.conditions.specs.Weakening.{free_weaker, movable_weaker};
+ghost use Rattle.station.specs.declared.tests.ReleaseTest.TheVariants as release;
+ghost use Rattle.station.specs.declared.tests.Lock.TheVariants.{Subroute};
+ghost use Rattle.conditions.specs.Weakening.{clear_weaker, free_weaker, movable_weaker};
 
 use crate::asks::{is_clear, is_free, is_unset, lies, point_told, row_for};
 use crate::firsts_of_rows::all_hold;
 use crate::tests::Test;
-use alike::Same;
 use acceptance::Accepted;
+use alike::Same;
 use states::States;
 use station::{ActivationTest, Lock, PointTest, Position, ReleaseTest, RequestTest};
 use track::Trackside;
@@ -79,6 +81,12 @@ impl Test for ActivationTest {
 
 impl Test for ReleaseTest {
     ghost holds = { release_holds };
+
+    ghost weaker = { elim [
+      | release.Unset r ↦ λ s v w more e. more.routes r e
+      | release.Free u ↦ λ s v w more e. free_weaker s v w more (Subroute u) e
+      | release.Clear t ↦ λ s v w more e. clear_weaker s v w more t e
+    ] };
 
     fn test<T: Trackside>(&self, station: &Accepted<'_>, states: &States, track: &T) -> bool {
         match self {
