@@ -21,7 +21,7 @@ use Rattle.safety.proofs.Actions.{Slot, live, Effect, effect}
 
 -- an element of a list is its first or one of the rest
 has_first : {X : Type 0} (x : X) (xs : List X) → Contains (x ∷ xs) x
-has_first x xs = (0, omega arith, λ d. refl)
+has_first x xs = (0, omega arith, refl)
 
 has_more : {X : Type 0} (x y : X) (xs : List X) → Contains xs y → Contains (x ∷ xs) y
 has_more x y xs h = (suc h.0, (let k : h.0 < length xs = h.1 in omega arith), h.2)
@@ -29,8 +29,8 @@ has_more x y xs h = (suc h.0, (let k : h.0 < length xs = h.1 in omega arith), h.
 has_cases : {X : Type 0} (x y : X) (xs : List X) → Contains (x ∷ xs) y → (x ≡ y) ⊎ Contains xs y
 has_cases x y xs h = go h.0 h.1 h.2
   where
-    go : (k : ℕ) → k < suc (length xs) → ((d : _) → get_or (x ∷ xs) k d ≡ y) → (x ≡ y) ⊎ Contains xs y
-    go zero l at = inl (at x)
+    go : (k : ℕ) → k < suc (length xs) → get_or (x ∷ xs) k y ≡ y → (x ≡ y) ⊎ Contains xs y
+    go zero l at = inl at
     go (suc k) l at = inr (k, omega arith, at)
 
 -- a lock that is taken has a slot

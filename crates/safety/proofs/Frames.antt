@@ -9,10 +9,10 @@ module _ (S : Plan) (st : Situation) (trains : ℕ → Train) (t : ℕ) (e : tra
   pub frame_route : (owner : ℕ → Owner) (r k : ℕ) → OnRoute S st owner t r k → OnRoute S (with_trains st trains) owner t r k
   frame_route owner r k q =
       record {
-        r_known = q.r-known;
-        k_in = q.k-in;
+        r_known = q.r_known;
+        k_in = q.k_in;
         in_it = ap front_of e ∙ q.in_it;
-        by_it = ap joint_of e ∙ q.by-it;
+        by_it = ap joint_of e ∙ q.by_it;
         locked = q.locked;
         points = q.points;
         owned = q.owned;
@@ -25,9 +25,9 @@ module _ (S : Plan) (st : Situation) (trains : ℕ → Train) (t : ℕ) (e : tra
         v = q.v;
         x = q.x;
         n = q.n;
-        v_known = q.v-known;
+        v_known = q.v_known;
         here = q.here;
-        by_it = ap joint_of e ∙ q.by-it;
+        by_it = ap joint_of e ∙ q.by_it;
         points = q.points;
         over = q.over;
         signal = q.signal;

@@ -14,9 +14,9 @@ module _ (S : Plan) (ok : Facts S) (st : Situation) (T : Told) (g : Ghost) (inv 
   one_route q r n lq lr sq sr =
       let gq = inv.granted q lq in
       let gr = inv.granted r lr in
-      let same = ok.one_signal _ _ _ _ n (ok.first_signal q n gq.r-known sq) (ok.first_signal r n gr.r-known sr) in
-      let oq = gq.owned 0 (ok.some_path q gq.r-known) in
-      let or = gr.owned 0 (ok.some_path r gr.r-known) in
+      let same = ok.one_signal _ _ _ _ n (ok.first_signal q n gq.r_known sq) (ok.first_signal r n gr.r_known sr) in
+      let oq = gq.owned 0 (ok.some_path q gq.r_known) in
+      let or = gr.owned 0 (ok.some_path r gr.r_known) in
       let c : S.seg (S.sub q 0) ≡ S.seg (S.sub r 0) = same.1 in
       let d : route q ≡ route r = cc in
       cc
@@ -67,10 +67,10 @@ module _ (S : Plan) (ok : Facts S) (st : Situation) (T : Told) (g : Ghost) (inv 
 
   -- the released one is no place of a path that is set or active: the route or the place before it would be in the way
   not_granted : (q i : ℕ) → st.live q ≡ true → i < S.len q → S.sub q i ≡ u → ⊥
-  not_granted q zero live hi e = both live (m.starts q (inv.granted q live).r-known e)
+  not_granted q zero live hi e = both live (m.starts q (inv.granted q live).r_known e)
   not_granted q (suc i) live hi e =
       let o = inv.granted q live in
-      both (o.locked i (omega arith)) (m.follows q i o.r-known hi e)
+      both (o.locked i (omega arith)) (m.follows q i o.r_known hi e)
 
   not_held : (t x q i : ℕ) → q < S.routes → i < S.len q → S.seg (S.sub q i) ≡ x → Held (st.trains t) x → S.sub q i ≡ u → ⊥
   not_held t x q i hq hi e h d = m.clear q i hq hi d t (subst (λ y. Held (st.trains t) y) (sym e ∙ ap S.seg d) h)
@@ -78,11 +78,11 @@ module _ (S : Plan) (ok : Facts S) (st : Situation) (T : Told) (g : Ghost) (inv 
   -- nor a place ahead of a train: its own segment is not clear, and later places have a locked one before them
   not_ahead : (t q k i : ℕ) → OnRoute S st g.owner t q k → k ≤ i → i < S.len q → S.sub q i ≡ u → ⊥
   not_ahead t q k i o a b e =
-      elim (ℕ_discrete i k) [ yes w ↦ not_held t (S.seg (S.sub q k)) q i o.r-known b (ap (λ y. S.seg (S.sub q y)) w) (inl o.in_it) e | no w ↦ later i e a b w ]
+      elim (ℕ_discrete i k) [ yes w ↦ not_held t (S.seg (S.sub q k)) q i o.r_known b (ap (λ y. S.seg (S.sub q y)) w) (inl o.in_it) e | no w ↦ later i e a b w ]
     where
       later : (j : ℕ) → S.sub q j ≡ u → k ≤ j → j < S.len q → j ≢ k → ⊥
       later zero e a b w = w (omega arith)
-      later (suc j) e a b w = both (o.locked j (omega arith) (omega arith)) (m.follows q j o.r-known b e)
+      later (suc j) e a b w = both (o.locked j (omega arith) (omega arith)) (m.follows q j o.r_known b e)
 
   -- A release keeps the invariant: nothing that is claimed is released.
   pub release_keeps : Invariant S (with_locks st m.locked) T g
@@ -90,7 +90,7 @@ module _ (S : Plan) (ok : Facts S) (st : Situation) (T : Told) (g : Ghost) (inv 
       record {
         granted = λ q live.
             let o = inv.granted q live in
-            record { r_known = o.r-known; locked = λ i hi. lock_stays _ (not_granted q i live hi) (o.locked i hi); owned = o.owned };
+            record { r_known = o.r_known; locked = λ i hi. lock_stays _ (not_granted q i live hi) (o.locked i hi); owned = o.owned };
         open_way = inv.open_way;
         signal = inv.signal;
         held = λ t x h.
@@ -98,10 +98,10 @@ module _ (S : Plan) (ok : Facts S) (st : Situation) (T : Told) (g : Ghost) (inv 
             record {
               q = o.q;
               i = o.i;
-              q_known = o.q-known;
-              i_in = o.i-in;
+              q_known = o.q_known;
+              i_in = o.i_in;
               here = o.here;
-              locked = lock_stays _ (not_held t x o.q o.i o.q-known o.i-in o.here h) o.locked;
+              locked = lock_stays _ (not_held t x o.q o.i o.q_known o.i_in o.here h) o.locked;
               points = o.points;
               owned = o.owned;
             };
@@ -109,10 +109,10 @@ module _ (S : Plan) (ok : Facts S) (st : Situation) (T : Told) (g : Ghost) (inv 
         moving = λ t f q k a b.
             let o = inv.moving t f q k a b in
             record {
-              r_known = o.r-known;
-              k_in = o.k-in;
+              r_known = o.r_known;
+              k_in = o.k_in;
               in_it = o.in_it;
-              by_it = o.by-it;
+              by_it = o.by_it;
               locked = λ i c d. lock_stays _ (not_ahead t q k i o c d) (o.locked i c d);
               points = o.points;
               owned = o.owned;
@@ -143,22 +143,22 @@ module _ (S : Plan) (ok : Facts S) (st : Situation) (T : Told) (g : Ghost) (inv 
         signal = inv.signal;
         held = λ t x h.
             let o = inv.held t x h in
-            record { q = o.q; i = o.i; q_known = o.q-known; i_in = o.i-in; here = o.here; locked = o.locked; points = lying_stays _ o.points; owned = o.owned };
+            record { q = o.q; i = o.i; q_known = o.q_known; i_in = o.i_in; here = o.here; locked = o.locked; points = lying_stays _ o.points; owned = o.owned };
         on_track = inv.on_track;
         moving = λ t f q k a b.
             let o = inv.moving t f q k a b in
             record {
-              r_known = o.r-known;
-              k_in = o.k-in;
+              r_known = o.r_known;
+              k_in = o.k_in;
               in_it = o.in_it;
-              by_it = o.by-it;
+              by_it = o.by_it;
               locked = o.locked;
               points = λ i c d. lying_stays _ (o.points i c d);
               owned = o.owned;
             };
         resting = λ t f a b.
             let o = inv.resting t f a b in
-            record { one = o.one; v = o.v; x = o.x; n = o.n; v_known = o.v-known; here = o.here; by_it = o.by-it; points = lying_stays _ o.points; over = o.over; signal = o.signal };
+            record { one = o.one; v = o.v; x = o.x; n = o.n; v_known = o.v_known; here = o.here; by_it = o.by_it; points = lying_stays _ o.points; over = o.over; signal = o.signal };
         following = inv.following;
         idle = inv.idle;
       }

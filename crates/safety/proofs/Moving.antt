@@ -173,7 +173,7 @@ module _ (s : Station) (keeps : Sound s) (facts : Consequences s) (v : State) (h
           proceed = λ k. not (is_stop (get_or (set v.track.signals n Stop) k Stop));
           routes_are = λ r. elim (ended.routes r) [
             | inl a ↦ inl (a.2, a.1, ap is_active a.3, ap (λ y. not (is_unset y)) a.3)
-            | inr a ↦ inr (λ g f. a.0 (kept.inv.granted r (kept.inv.open_way r g).live).r-known f g, ap is_active a.1, ap (λ y. not (is_unset y)) a.1)
+            | inr a ↦ inr (λ g f. a.0 (kept.inv.granted r (kept.inv.open_way r g).live).r_known f g, ap is_active a.1, ap (λ y. not (is_unset y)) a.1)
           ];
           proceed_is = written (λ y. not (is_stop y)) v.track.signals n Stop Stop (signal_known s keeps facts v h kept n (governor_is s j x n there).0);
         }

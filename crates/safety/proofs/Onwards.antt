@@ -36,7 +36,7 @@ module _ (S : Plan) (ok : Facts S) (st : Situation) (T : Told) (g : Ghost) (inv 
     at_place u e w =
         let pl = place in
         record {
-          r_known = o.r-known;
+          r_known = o.r_known;
           k_in = pl.0;
           in_it = ap front_of w ∙ ap Some pl.1;
           by_it = ap joint_of w ∙ pl.2;
@@ -52,7 +52,7 @@ module _ (S : Plan) (ok : Facts S) (st : Situation) (T : Told) (g : Ghost) (inv 
         record {
           q = r;
           i = suc k;
-          q_known = o.r-known;
+          q_known = o.r_known;
           i_in = pl.0;
           here = es;
           locked = o.locked (suc k) (omega arith) pl.0;
@@ -101,7 +101,7 @@ module _ (S : Plan) (ok : Facts S) (st : Situation) (T : Told) (g : Ghost) (inv 
     unfolding T'
     new_following =
         let old = inv.following t r k d in
-        record { r_known = o.r-known; k_in = place.0; came = rw (eq-eqb t t refl, place.1, old.came); its = old.its }
+        record { r_known = o.r_known; k_in = place.0; came = rw (eq-eqb t t refl, place.1, old.came); its = old.its }
 
     keep_following : (u r' k' : ℕ) → progress' u ≡ on r' k' → Following S T' u r' k'
     unfolding progress' T'
@@ -114,7 +114,7 @@ module _ (S : Plan) (ok : Facts S) (st : Situation) (T : Told) (g : Ghost) (inv 
               subst (λ y. Following S T' y r' k') (sym b.0) (subst (λ y. Following S T' t y k') er (subst (λ y. Following S T' t r y) ek new_following))
           | inr b ↦
               let old = inv.following u r' k' (sym b.1 ∙ n) in
-              record { r_known = old.r-known; k_in = old.k-in; came = rw (ne_eqb u t b.0) old.came; its = old.its }
+              record { r_known = old.r_known; k_in = old.k_in; came = rw (ne_eqb u t b.0) old.came; its = old.its }
         ]
 
     keep_idle : (u : ℕ) → progress' u ≡ none → (T'.since u ≡ []) × (T'.route u ≡ None)

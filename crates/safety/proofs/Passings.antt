@@ -57,7 +57,7 @@ module _ (S : Plan) (ok : Facts S) (st : Situation) (T : Told) (g : Ghost) (inv 
     live = (inv.open_way r ac).live
 
     hr : r < S.routes
-    hr = (inv.granted r live).r-known
+    hr = (inv.granted r live).r_known
 
     -- the train comes in where the route's path begins
     first : (m.j ≡ S.from (S.sub r 0)) × (x ≡ S.seg (S.sub r 0))
@@ -73,7 +73,7 @@ module _ (S : Plan) (ok : Facts S) (st : Situation) (T : Told) (g : Ghost) (inv 
 
     keep_guarded : (u y : ℕ) → Guarded S st g.owner u y → Guarded S st owner' u y
     keep_guarded u y o =
-        record { q = o.q; i = o.i; q_known = o.q-known; i_in = o.i-in; here = o.here; locked = o.locked; points = o.points; owned = owned_train y u o.owned }
+        record { q = o.q; i = o.i; q_known = o.q_known; i_in = o.i_in; here = o.here; locked = o.locked; points = o.points; owned = owned_train y u o.owned }
 
     keep_granted : (q : ℕ) → m.passed.live q ≡ true → Granted S st' owner' q
     unfolding st' owner'
@@ -83,7 +83,7 @@ module _ (S : Plan) (ok : Facts S) (st : Situation) (T : Told) (g : Ghost) (inv 
           | inr a ↦
               let o = inv.granted q (sym a.2 ∙ l) in
               let ne : q ≢ r = λ e. a.0 (ap st.active e ∙ ac) (ap (λ y. S.starts y n) e ∙ sg) in
-              record { r_known = o.r-known; locked = o.locked; owned = λ i hi. ap (takes r t) (o.owned i hi) ∙ takes_not r t q ne }
+              record { r_known = o.r_known; locked = o.locked; owned = λ i hi. ap (takes r t) (o.owned i hi) ∙ takes_not r t q ne }
         ]
 
     keep_open : (q : ℕ) → m.passed.active q ≡ true → Open S st' T' q
@@ -106,7 +106,7 @@ module _ (S : Plan) (ok : Facts S) (st : Situation) (T : Told) (g : Ghost) (inv 
         -- a route starts at one signal only
         other : (q n' : ℕ) → st.active q ≡ true → S.starts q n ≡ true → S.starts q n' ≡ true → n' ≡ n
         other q n' a b c =
-            let hq = (inv.granted q (inv.open_way q a).live).r-known in
+            let hq = (inv.granted q (inv.open_way q a).live).r_known in
             let e : Some n ≡ Some n' = sym (ok.first_signal q n hq b) ∙ ok.first_signal q n' hq c in
             cc
 
@@ -153,10 +153,10 @@ module _ (S : Plan) (ok : Facts S) (st : Situation) (T : Told) (g : Ghost) (inv 
     old_route u r' k' e o =
         let w = frame_route S st m.trains u e g.owner r' k' o in
         record {
-          r_known = w.r-known;
-          k_in = w.k-in;
+          r_known = w.r_known;
+          k_in = w.k_in;
           in_it = w.in_it;
-          by_it = w.by-it;
+          by_it = w.by_it;
           locked = w.locked;
           points = w.points;
           owned = λ i c d. owned_train _ u (w.owned i c d);
@@ -211,7 +211,7 @@ module _ (S : Plan) (ok : Facts S) (st : Situation) (T : Told) (g : Ghost) (inv 
               subst (λ y. Following S T' y r' k') (sym b.0) (subst (λ y. Following S T' t y k') er (subst (λ y. Following S T' t r y) ek new_following))
           | inr b ↦
               let old = inv.following u r' k' (sym b.1 ∙ h) in
-              record { r_known = old.r-known; k_in = old.k-in; came = rw (ne_eqb u t b.0) old.came; its = rw (ne_eqb u t b.0) old.its }
+              record { r_known = old.r_known; k_in = old.k_in; came = rw (ne_eqb u t b.0) old.came; its = rw (ne_eqb u t b.0) old.its }
         ]
 
     keep_idle : (u : ℕ) → progress' u ≡ none → (T'.since u ≡ []) × (T'.route u ≡ None)

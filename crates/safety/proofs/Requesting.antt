@@ -7,6 +7,7 @@ use Rattle.std.proofs.lemmas.List.{get_or_past}
 use Rattle.std.proofs.lemmas.Bool.{and_parts, cases_Bool, cases_lt, leb-true, ltb-true, not_from_false, not_from_true, or_cases}
 use Rattle.firsts.specs.Lists.{all}
 use Rattle.firsts.proofs.Elements.{decides_every, decides_has}
+use Rattle.firsts.proofs.Elements.{found_at}
 use Rattle.station.specs.Station.{Station}
 use Rattle.station.specs.Numbers.{point_at, route_at, zone_at, no_zone}
 use Rattle.station.specs.Subroutes.{subroutes, segment_of}
@@ -138,7 +139,7 @@ module _ (s : Station) (keeps : Sound s) (facts : Consequences s) (v : State) (h
         on_it : Uses s r u → (u < 192 → is_locked w.own (Subroute u) ≡ true) → (i : ℕ) × (i < path_length s r) × (on_path s r i ≡ u) × (is_locked w.own (Subroute u) ≡ true)
         on_it k locked =
             let i = k.0 in
-            let e : on_path s r i ≡ u = k.2 0 in
+            let e : on_path s r i ≡ u = found_at (path s r) u k 0 in
             let n = few_subroutes s kept.slots in
             let m : on_path s r i < subroutes s = (facts.paths r hr).runs i k.1 in
             (i, k.1, e, locked (omega arith))

@@ -69,9 +69,9 @@ module _ (S : Plan) (ok : Facts S) (st : Situation) (T : Told) (g : Ghost) (inv 
       old : Granted S st g.owner q → Granted S (requested m) owner' q
       old o =
           record {
-            r_known = o.r-known;
+            r_known = o.r_known;
             locked = λ i hi. lock_kept (S.sub q i) (o.locked i hi);
-            owned = λ i hi. owner_kept q i o.r-known hi (o.locked i hi) ∙ o.owned i hi;
+            owned = λ i hi. owner_kept q i o.r_known hi (o.locked i hi) ∙ o.owned i hi;
           }
 
   keep_open : (q : ℕ) → st.active q ≡ true → Open S (requested m) T q
@@ -80,7 +80,7 @@ module _ (S : Plan) (ok : Facts S) (st : Situation) (T : Told) (g : Ghost) (inv 
       let w = inv.granted q o.live in
       record {
         live = elim (m.live_is q) [ inl a ↦ a.1 | inr a ↦ a.1 ∙ o.live ];
-        points = λ i hi. lying_kept (S.sub q i) q i (ok.known q i w.r-known hi) w.r-known hi refl (w.locked i hi) (o.points i hi);
+        points = λ i hi. lying_kept (S.sub q i) q i (ok.known q i w.r_known hi) w.r_known hi refl (w.locked i hi) (o.points i hi);
         latest = o.latest;
       }
 
@@ -89,24 +89,24 @@ module _ (S : Plan) (ok : Facts S) (st : Situation) (T : Told) (g : Ghost) (inv 
       record {
         q = o.q;
         i = o.i;
-        q_known = o.q-known;
-        i_in = o.i-in;
+        q_known = o.q_known;
+        i_in = o.i_in;
         here = o.here;
         locked = lock_kept _ o.locked;
-        points = lying_kept _ o.q o.i (ok.known o.q o.i o.q-known o.i-in) o.q-known o.i-in refl o.locked o.points;
-        owned = let k = owner_kept o.q o.i o.q-known o.i-in o.locked in subst (λ y. owner' y ≡ g.owner y) o.here k ∙ o.owned;
+        points = lying_kept _ o.q o.i (ok.known o.q o.i o.q_known o.i_in) o.q_known o.i_in refl o.locked o.points;
+        owned = let k = owner_kept o.q o.i o.q_known o.i_in o.locked in subst (λ y. owner' y ≡ g.owner y) o.here k ∙ o.owned;
       }
 
   keep_on_route : (t q k : ℕ) → OnRoute S st g.owner t q k → OnRoute S (requested m) owner' t q k
   keep_on_route t q k o =
       record {
-        r_known = o.r-known;
-        k_in = o.k-in;
+        r_known = o.r_known;
+        k_in = o.k_in;
         in_it = o.in_it;
-        by_it = o.by-it;
+        by_it = o.by_it;
         locked = λ i a b. lock_kept _ (o.locked i a b);
-        points = λ i a b. lying_kept _ q i (ok.known q i o.r-known b) o.r-known b refl (o.locked i a b) (o.points i a b);
-        owned = λ i a b. owner_kept q i o.r-known b (o.locked i a b) ∙ o.owned i a b;
+        points = λ i a b. lying_kept _ q i (ok.known q i o.r_known b) o.r_known b refl (o.locked i a b) (o.points i a b);
+        owned = λ i a b. owner_kept q i o.r_known b (o.locked i a b) ∙ o.owned i a b;
       }
 
   keep_facing : (t f : ℕ) → front_of (st.trains t) ≡ Some f → Facing S st t f → Facing S (requested m) t f
@@ -117,10 +117,10 @@ module _ (S : Plan) (ok : Facts S) (st : Situation) (T : Told) (g : Ghost) (inv 
         v = o.v;
         x = o.x;
         n = o.n;
-        v_known = o.v-known;
+        v_known = o.v_known;
         here = o.here;
-        by_it = o.by-it;
-        points = lying_kept _ w.q w.i o.v-known w.q-known w.i-in (o.here ∙ sym w.here) w.locked o.points;
+        by_it = o.by_it;
+        points = lying_kept _ w.q w.i o.v_known w.q_known w.i_in (o.here ∙ sym w.here) w.locked o.points;
         over = o.over;
         signal = o.signal;
       }
@@ -144,4 +144,4 @@ module _ (S : Plan) (ok : Facts S) (st : Situation) (T : Told) (g : Ghost) (inv 
 
   -- no point under a train changes
   pub request_points : (t p : ℕ) → p < S.points → Held (st.trains t) (S.home p) → m.points p ≡ st.points p
-  request_points t p hp x = let o = inv.held t (S.home p) x in point_kept o.q o.i p o.q-known o.i-in (hp, sym o.here) o.locked
+  request_points t p hp x = let o = inv.held t (S.home p) x in point_kept o.q o.i p o.q_known o.i_in (hp, sym o.here) o.locked

@@ -52,7 +52,7 @@ module _ (S : Plan) (ok : Facts S) (st : Situation) (T : Told) (g : Ghost) (inv 
   pub settled : (t p : ℕ) → p < S.points → Held (st.trains t) (S.home p) → (st.points p).settled ≡ true
   settled t p hp a =
       let o = inv.held t (S.home p) a in
-      let n = ok.names _ p (ok.known o.q o.i o.q-known o.i-in) (hp, sym o.here) in
+      let n = ok.names _ p (ok.known o.q o.i o.q_known o.i_in) (hp, sym o.here) in
       subst (λ y. (st.points y).settled ≡ true) n.2 (o.points n.0 n.1).0
 
   -- a train has entered the first segments of its route's path
@@ -65,7 +65,7 @@ module _ (S : Plan) (ok : Facts S) (st : Situation) (T : Told) (g : Ghost) (inv 
           let w = inv.following t q k d in
           let i : Some q ≡ Some r = sym w.its ∙ e in
           let eq : q ≡ r = cc in
-          subst (λ y. (n : ℕ) × (n ≤ S.len y) × (T.since t ≡ firsts S y n)) eq (suc k, w.k-in, w.came)
+          subst (λ y. (n : ℕ) × (n ≤ S.len y) × (T.since t ≡ firsts S y n)) eq (suc k, w.k_in, w.came)
 
   -- one without a route has entered none
   pub still : (t : ℕ) → T.route t ≡ None → T.since t ≡ []

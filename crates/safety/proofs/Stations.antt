@@ -3,6 +3,7 @@ use Rattle.std.proofs.Common.{◌≡◌, ℕ, suc, ◌+◌, ◌-◌, ◌/◌, �
 use Rattle.std.proofs.lemmas.Bool.Decides.{eqb_tells}
 use Rattle.firsts.specs.Search.{First}
 use Rattle.firsts.proofs.Firsts.{first_is, none_below}
+use Rattle.firsts.proofs.Elements.{found_at}
 use Rattle.station.specs.Station.{Station}
 use Rattle.station.specs.Numbers.{way_at, point_at, signal_at, no_signal}
 use Rattle.station.specs.Subroutes.{subroutes, way_of, against, start, end, segment_of, settings_of}
@@ -70,7 +71,7 @@ governed s j x h = elim (some_or_none (governor s j x)) [ inl a ↦ a | inr a �
     missing : governor s j x ≡ None → ⊥
     missing e =
         let k = h.0 in
-        let a : signal_at s k ≡ record { joint = j; segment = x } = h.2 no_signal in
+        let a : signal_at s k ≡ record { joint = j; segment = x } = found_at s.signals (record { joint = j; segment = x }) h no_signal in
         let b = (decides_signal (record { joint = j; segment = x }) (signal_at s k)).1 (sym a) in
         let c : cond true (Some k) None ≡ None = rw b at (none_below (governs s j x) (length s.signals) e k h.1) in
         let z : ◌≡◌ {A = ℕ} 0 1 = cc in

@@ -20,10 +20,10 @@ module _ (S : Plan) (ok : Facts S) (st : Situation) (T : Told) (g : Ghost) (inv 
             let ft : front_of (st.trains u) ≡ Some f = ap (λ z. front_of (st.trains z)) a.0 ∙ m.front_was f fw in
             let q = inv.moving u f r k ft n in
             record {
-              r_known = q.r-known;
-              k_in = q.k-in;
+              r_known = q.r_known;
+              k_in = q.k_in;
               in_it = w ∙ sym ft ∙ q.in_it;
-              by_it = ap joint_of a.1 ∙ m.joint_was f fw ∙ ap (λ z. joint_of (st.trains z)) (sym a.0) ∙ q.by-it;
+              by_it = ap joint_of a.1 ∙ m.joint_was f fw ∙ ap (λ z. joint_of (st.trains z)) (sym a.0) ∙ q.by_it;
               locked = q.locked;
               points = q.points;
               owned = q.owned;
@@ -111,7 +111,7 @@ module _ (S : Plan) (ok : Facts S) (st : Situation) (T : Told) (g : Ghost) (inv 
         | inl b ↦ absurd (let c : none ≡ on r k = sym b.1 ∙ n in let y : ◌≡◌ {A = ℕ} 0 1 = cc in omega arith)
         | inr b ↦
             let old = inv.following u r k (sym b.1 ∙ n) in
-            record { r_known = old.r-known; k_in = old.k-in; came = rw (ne_eqb u t b.0) old.came; its = rw (ne_eqb u t b.0) old.its }
+            record { r_known = old.r_known; k_in = old.k_in; came = rw (ne_eqb u t b.0) old.came; its = rw (ne_eqb u t b.0) old.its }
       ]
 
   turn_idle : (u : ℕ) → progress' u ≡ none → ((told_turning T t).since u ≡ []) × ((told_turning T t).route u ≡ None)

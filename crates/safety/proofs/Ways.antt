@@ -18,10 +18,10 @@ module _ (S : Plan) (ok : Facts S) (st : Situation) where
   pub route_fits : (owner : ℕ → Owner) (t f j r k : ℕ) → st.trains t ≡ come_in f j → OnRoute S st owner t r k → Fitting S st f j (S.sub r k)
   route_fits owner t f j r k e o =
       let a : Some (S.seg (S.sub r k)) ≡ Some f = sym o.in_it ∙ ap front_of e in
-      record { known = ok.known r k o.r-known o.k-in; in_it = cc; at_it = sym o.by-it ∙ ap joint_of e; points = o.points k (le_refl k) o.k-in }
+      record { known = ok.known r k o.r_known o.k_in; in_it = cc; at_it = sym o.by_it ∙ ap joint_of e; points = o.points k (le_refl k) o.k_in }
 
   pub facing_fits : (t f j : ℕ) → st.trains t ≡ come_in f j → (o : Facing S st t f) → Fitting S st f j o.v
-  facing_fits t f j e o = record { known = o.v-known; in_it = o.here; at_it = sym o.by-it ∙ ap joint_of e; points = o.points }
+  facing_fits t f j e o = record { known = o.v_known; in_it = o.here; at_it = sym o.by_it ∙ ap joint_of e; points = o.points }
 
   -- beyond a place of a path lies the next, or the path's end
   place_ends : (r k : ℕ) → r < S.routes → k < S.len r → (suc k < S.len r) ⊎ Ending S (S.sub r k)
@@ -37,7 +37,7 @@ module _ (S : Plan) (ok : Facts S) (st : Situation) where
 
   -- one on its route that passes no signal comes into the next place
   pub next_place : (owner : ℕ → Owner) (t f j v x r k : ℕ) → st.trains t ≡ come_in f j → OnRoute S st owner t r k → Fitting S st f j v → S.beyond (S.to v) f ≡ Segment x → S.signal (S.to v) x ≡ None → (suc k < S.len r) × (x ≡ S.seg (S.sub r (suc k))) × (S.to v ≡ S.from (S.sub r (suc k)))
-  next_place owner t f j v x r k e o a b c = go (place_ends r k o.r-known o.k-in)
+  next_place owner t f j v x r k e o a b c = go (place_ends r k o.r_known o.k_in)
     where
       w : v ≡ S.sub r k
       w = one_fits f j v (S.sub r k) a (route_fits owner t f j r k e o)
@@ -53,8 +53,8 @@ module _ (S : Plan) (ok : Facts S) (st : Situation) where
 
       go : (suc k < S.len r) ⊎ Ending S (S.sub r k) → (suc k < S.len r) × (x ≡ S.seg (S.sub r (suc k))) × (S.to v ≡ S.from (S.sub r (suc k)))
       go (inl h) =
-          let n = ok.next_segment r k o.r-known h in
-          let jn = ok.joined r k o.r-known h in
+          let n = ok.next_segment r k o.r_known h in
+          let jn = ok.joined r k o.r_known h in
           let bs' = bs in
           let w' = w in
           (h, cc, cc)
