@@ -2,6 +2,7 @@
 use Rattle.std.proofs.Common.{◌≡◌, ℕ, zero, suc, ◌+◌, ◌*◌, ◌/◌, List, [], ◌∷◌, ◌++◌, length, take, drop, Some, None, All, Option, sym, refl, ap, ◌∙◌, arith}
 use Rattle.std.specs.Simd.{first_chunks}
 use Rattle.std.proofs.lemmas.List.{drop_at, length-append, length-drop, nil_from_length, take-append-drop, take_at}
+use Rattle.std.proofs.lemmas.List.Elements.{All-head, All-tail}
 use Rattle.track.specs.declared.states.Train.{Train}
 use Rattle.octets.specs.Each.{each}
 use Rattle.octets.specs.Writes.{train_octets}
@@ -32,15 +33,15 @@ Four q = length q ≡ 4
 pub length_flat : (qs : List (List ℕ)) → All Four qs → length (flat qs) ≡ 4 * length qs
 unfolding flat
 length_flat [] a = refl
-length_flat (q ∷ qs) a = let more = length_flat qs a.1 in let one = a.0 in length-append q (flat qs) ∙ omega arith
+length_flat (q ∷ qs) a = let more = length_flat qs (All-tail Four q qs a) in let one : length q ≡ 4 = All-head Four q qs a in length-append q (flat qs) ∙ omega arith
 
 pub fours_flat : (qs : List (List ℕ)) → All Four qs → fours (length qs) (flat qs) ≡ qs
 unfolding fours flat
 fours_flat [] a = refl
 fours_flat (q ∷ qs) a =
-    ap (λ l. l ∷ first_chunks 4 (length qs) (drop 4 (q ++ flat qs))) (take_at q (flat qs) 4 a.0)
-    ∙ ap (λ l. q ∷ first_chunks 4 (length qs) l) (drop_at q (flat qs) 4 a.0)
-    ∙ ap (λ l. q ∷ l) (fours_flat qs a.1)
+    ap (λ l. l ∷ first_chunks 4 (length qs) (drop 4 (q ++ flat qs))) (take_at q (flat qs) 4 (All-head Four q qs a))
+    ∙ ap (λ l. q ∷ first_chunks 4 (length qs) l) (drop_at q (flat qs) 4 (All-head Four q qs a))
+    ∙ ap (λ l. q ∷ l) (fours_flat qs (All-tail Four q qs a))
 
 -- the octets of trains are four by four
 pub all_four : (ts : List Train) (qs : List (List ℕ)) → each train_octets ts ≡ Some qs → All Four qs

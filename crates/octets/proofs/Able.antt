@@ -2,6 +2,7 @@
 use Rattle.std.proofs.Common.{◌≡◌, ℕ, ◌+◌, ◌<◌, ◌≤◌, Bool, true, false, cond, eqb, leb, List, [], ◌∷◌, Some, None, All, Option, refl, ap, ◌∙◌, arith}
 use Rattle.std.proofs.lemmas.Bool.{cond-true, le-leb}
 use Rattle.std.proofs.lemmas.Bool.Decides.{nat_tests}
+use Rattle.std.proofs.lemmas.List.Elements.{All-nil, All-cons, All-head, All-tail}
 use Rattle.motor.specs.declared.runs.Run.{Run}
 use Rattle.track.specs.declared.states.Front.{Front}
 use Rattle.track.specs.declared.states.Front.TheVariants.{In, Outside}
@@ -64,13 +65,13 @@ module _ {X Y : Type 0} {write : Y → Option X} {able : Y → Type 0} (writes :
   unfolding each
   each_there [] a = ([], refl)
   each_there (y ∷ ys) a =
-      let one = writes.there y a.0 in
-      let more = each_there ys a.1 in
+      let one = writes.there y (All-head able y ys a) in
+      let more = each_there ys (All-tail able y ys a) in
       (one.0 ∷ more.0, ap (λ o. both o (each write ys)) one.1 ∙ ap (both (Some one.0)) more.1)
 
   pub each_only : (xs : List X) (ys : List Y) → each write ys ≡ Some xs → All able ys
   unfolding each
-  each_only xs [] e = tt
+  each_only xs [] e = All-nil able
   each_only xs (y ∷ ys) e =
       let p = parted (write y) (each write ys) xs e in
-      (writes.only p.0 y p.2, each_only p.1 ys p.3)
+      All-cons able y ys (writes.only p.0 y p.2) (each_only p.1 ys p.3)

@@ -1,5 +1,6 @@
 -- Where things are read from what stands for them, and from nothing else, so are lists of them.
 use Rattle.std.proofs.Common.{◌≡◌, ℕ, suc, List, [], ◌∷◌, length, Some, None, All, Option, sym, refl, ap, ◌∙◌, subst, arith}
+use Rattle.std.proofs.lemmas.List.Elements.{All-nil, All-cons, All-head, All-tail}
 use Rattle.octets.specs.Each.{both, each}
 use Rattle.octets.specs.Laws.{Any, Means}
 
@@ -17,16 +18,15 @@ each_long f (x ∷ xs) ys e =
     sym (ap length p.4) ∙ ap suc (each_long f xs p.1 p.3)
 
 pub all_any : {Y : Type 0} (ys : List Y) → All Any ys
-all_any [] = tt
-all_any (y ∷ ys) = (tt, all_any ys)
+all_any ys = λ k d l. tt
 
 -- what each element's answer keeps, all answers keep
 pub each_has : {X Y : Type 0} (f : X → Option Y) (P : Y → Type 0) → ((x : X) (y : Y) → f x ≡ Some y → P y) → (xs : List X) (ys : List Y) → each f xs ≡ Some ys → All P ys
 unfolding each
-each_has f P h [] ys e = let nil : [] ≡ ys = cc in subst (All P) nil tt
+each_has f P h [] ys e = let nil : [] ≡ ys = cc in subst (All P) nil (All-nil P)
 each_has f P h (x ∷ xs) ys e =
     let p = parted (f x) (each f xs) ys e in
-    subst (All P) p.4 (h x p.0 p.2, each_has f P h xs p.1 p.3)
+    subst (All P) p.4 (All-cons P p.0 p.1 (h x p.0 p.2) (each_has f P h xs p.1 p.3))
 
 module _ {X Y : Type 0} {read : X → Option Y} {write : Y → Option X} {meant : Y → Type 0} (means : Means read write meant) where
   pub all_written : (xs : List X) (ys : List Y) → each read xs ≡ Some ys → each write ys ≡ Some xs
@@ -46,6 +46,6 @@ module _ {X Y : Type 0} {read : X → Option Y} {write : Y → Option X} {meant 
   all_read [] xs m e = let nil : [] ≡ xs = cc in subst (λ l. each read l ≡ Some []) nil refl
   all_read (y ∷ ys) xs m e =
       let p = parted (write y) (each write ys) xs e in
-      let one = means.again p.0 y m.0 p.2 in
-      let more = all_read ys p.1 m.1 p.3 in
+      let one = means.again p.0 y (All-head meant y ys m) p.2 in
+      let more = all_read ys p.1 (All-tail meant y ys m) p.3 in
       subst (λ l. each read l ≡ Some (y ∷ ys)) p.4 (ap (λ o. both o (each read p.1)) one ∙ ap (both (Some y)) more)

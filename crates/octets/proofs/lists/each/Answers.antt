@@ -12,7 +12,7 @@ loop-x-init g c =
 
 pub loop-x-preserved : goal.loop-x-preserved
 loop-x-preserved g c =
-    subst (λ ys. Along (g.C.Code.code c.args.code.now) c.args.xs.now ys (c.loop-x.x-index + 1)) (sym c.in_ok-push.ensures.items)
+    subst (λ ys. Along (g.C.Code.code c.args.code.now) c.args.xs.now ys (c.loop-x.x-index + 1)) (sym c.in_ok-push-in-Some.ensures.items)
     (gone_on _ _ _ _ c.loop-x.invariant c.x-item.result c.loop-x-test.true c.x-item.is c.code.result c.code.ensures c.in-Some.y c.in-Some.is)
 
 pub returns : goal.returns

@@ -19,7 +19,7 @@ returns-in_err-enter g c =
     let e = c.in_err-enter.field-0.0 in
     let x = enter_step s m c.args.train c.args.signal in
     let did = c.in_err-enter.ensures in
-    let p = err_from_is_err_and c.from-residual.result c.from-residual.ensures.1 in
+    let p = err_from_is_err_and c.from_residual.result c.from_residual.ensures.1 in
     rw (p.1, p.2) (record {
       every = enter_denied s m hs offs c.args.train c.args.signal e n did;
       below = did;

@@ -28,7 +28,7 @@ returns-in_err-t g c =
     let up = refused_move s m hs offs i (λ x. x.passed) (front_train s) (seen m hs offs) e (train_refusal_same s m hs offs i ∙ R) in
     let here = refused_move s m hs offs i (λ x. x.passed) (front_train s) m e R in
     let stays : Fronts s m i (Err e) m = record { answers = here.0; leaves = here.1 } in
-    let p = err_from_is_err_and c.from-residual.result c.from-residual.ensures.1 in
+    let p = err_from_is_err_and c.from_residual.result c.from_residual.ensures.1 in
     rw (p.1, p.2) (record {
       every = record { answers = up.0; leaves = up.1 };
       below = either_way _ _ _ stays refl;

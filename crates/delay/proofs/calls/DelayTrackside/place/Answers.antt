@@ -11,7 +11,7 @@ returns-in_err-t g c =
     let s = laid c.args.station.now in
     let hs = d.holding.counts in
     let offs = d.holding.derailed in
-    let p = err_from_is_err_and c.from-residual.result c.from-residual.ensures.1 in
+    let p = err_from_is_err_and c.from_residual.result c.from_residual.ensures.1 in
     rw (p.1, p.2) (place_denied s m hs offs c.args.train c.in_err-t.field-0.0 c.in_err-t.ensures)
 
 pub returns : goal.returns

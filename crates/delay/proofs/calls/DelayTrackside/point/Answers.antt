@@ -13,7 +13,7 @@ returns-in_err-p g c =
     let s = laid c.args.station.now in
     let hs = d.holding.counts in
     let offs = d.holding.derailed in
-    let p = err_from_is_err_and c.from-residual.result c.from-residual.ensures.1 in
+    let p = err_from_is_err_and c.from_residual.result c.from_residual.ensures.1 in
     rw (p.1, p.2) (point_denied s m hs offs c.args.point c.in_err-p.field-0.0 (state_at (seen m hs offs) c.args.point) c.in_err-p.ensures)
 
 pub returns : goal.returns

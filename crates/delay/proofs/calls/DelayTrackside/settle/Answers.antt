@@ -19,7 +19,7 @@ returns-in_err-p g c =
     let i = c.args.point in
     let e = c.in_err-p.field-0.0 in
     let R = denied (point_refusal s m i) e (state_at m i) c.in_err-p.ensures in
-    let p = err_from_is_err_and c.from-residual.result c.from-residual.ensures.1 in
+    let p = err_from_is_err_and c.from_residual.result c.from_residual.ensures.1 in
     rw (p.1, p.2) (record {
       every = refused_settle s (seen m hs offs) i e (refusal_same s m hs offs i ∙ R);
       below = either_way (holds_back hs i) _ _ (refl, sym (ap (λ x. answer x (hold (state_at m i) (count_at hs i - 1)).settled) R)) (refused_settle s m i e R);
