@@ -1,6 +1,6 @@
 // A list of calls on a newly opened machine, and what holds of trains all along.
 #![tactic(auto)]
 
-mod run;
+mod carrying;
 
-pub use run::{Ran, Unrun, run};
+pub use carrying::{Ran, Unrun, run};

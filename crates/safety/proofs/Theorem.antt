@@ -77,7 +77,7 @@ module _ (s : Station) (m : Meaning) (sixteen : length m.trains ≡ 16) (granted
         trains = absent;
       }
 
-  kept_opening : Kept s (opened m) []
+  pub kept_opening : Kept s (opened m) []
   kept_opening =
       record {
         sized = record { routes = length-replicate 48 routes.Unset; subroutes = length-replicate 192 false; zones = length-replicate 32 false };
@@ -91,7 +91,7 @@ module _ (s : Station) (m : Meaning) (sixteen : length m.trains ≡ 16) (granted
 
 module _ (s : Station) (keeps : Sound s) (facts : Consequences s) where
   -- each call keeps it, and disturbs no point under a train
-  step_next : (v w : State) (h : History) → Kept s v h → (c : Call) (a : Answer) → Steps s v c a w → Next s v w (happened c a w.track ++ h)
+  pub step_next : (v w : State) (h : History) → Kept s v h → (c : Call) (a : Answer) → Steps s v c a w → Next s v w (happened c a w.track ++ h)
   step_next v w h k (calls.Request r) a e = request_next s keeps facts v h k r e.0 w e.1.0
   step_next v w h k (calls.Activate r) a e = activation_next s keeps facts v h k r e.0 w e.1.0 a e.1.1
   step_next v w h k (calls.Release l) a e = release_next s keeps facts v h k l e.0 w e.1.0
@@ -127,7 +127,7 @@ module _ (s : Station) (keeps : Sound s) (facts : Consequences s) where
     on_track Absent e = refl
     on_track (Present p) e = e
 
-    safe : Safe s v h
+    pub safe : Safe s v h
     safe =
         record {
           apart = λ t u x a b. alone (plan s) (known_facts s keeps facts) (view v) (told s h) k.ghost k.inv t u x (held_is (train_at v.track t) x a) (held_is (train_at v.track u) x b);

@@ -7,8 +7,8 @@ ghost use Rattle.running.specs.Carried.{Carried};
 ghost use Rattle.safety.specs.Histories.{History};
 ghost use Rattle.track.specs.Meaning.{Meaning, laid};
 
-use calls::{Answer, Call};
 use acceptance::Accepted;
+use calls::{Answer, Call};
 use interlocking::Machine;
 use states::Denial;
 use std::alloc::Global;
