@@ -5,7 +5,7 @@ use Rattle.sheets.proofs.sections.read_part.Goals as goal
 
 pub returns-in_err-add_row : goal.returns-in_err-add_row
 returns-in_err-add_row c =
-    let p = err_from_is_err_and c.from-residual.result c.from-residual.ensures.1 in
+    let p = err_from_is_err_and c.from_residual.result c.from_residual.ensures.1 in
     rw (p.1, p.2)
     (refuses_like _ c.loop-i.invariant (part_refuses _ _ _ _ _ c.loop-i-test.true _ c.in_err-add_row.ensures))
 

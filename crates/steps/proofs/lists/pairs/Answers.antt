@@ -1,4 +1,4 @@
-use Rattle.std.proofs.Common.{◌≡◌, ◌-◌, ◌≤◌, [], ◌∷◌, ◌++◌, map, length, vec_len, sym, ap, ◌∙◌, arith, rules}
+use Rattle.std.proofs.Common.{◌≡◌, ◌-◌, ◌≤◌, [], ◌∷◌, ◌++◌, map, vec_len, sym, ap, ◌∙◌, arith}
 use Rattle.std.proofs.lemmas.List.{map_push}
 use Rattle.std.proofs.lemmas.Result.{err_from_is_err_and}
 use Rattle.text.specs.Ahead.{tokens_ahead}
@@ -9,19 +9,19 @@ use Rattle.steps.proofs.lists.pairs.Goals as goal
 
 pub returns-in_err-more : goal.returns-in_err-more
 returns-in_err-more c =
-    let p = err_from_is_err_and c.from-residual.result c.from-residual.ensures.1 in
+    let p = err_from_is_err_and c.from_residual.result c.from_residual.ensures.1 in
     rw (p.1, p.2) (list_bad _ _ _ _ c.in_err-more.ensures)
 
 pub returns-in_err-pair : goal.returns-in_err-pair
 returns-in_err-pair c =
-    let p = err_from_is_err_and c.from-residual-in_err-pair.result c.from-residual-in_err-pair.ensures.1 in
+    let p = err_from_is_err_and c.from_residual-in_err-pair.result c.from_residual-in_err-pair.ensures.1 in
     let same = ap (λ xs. a_pair c.args.list (map placed_pair xs) (tokens_ahead c.loop-more.reader)) c.as_slice.ensures.value in
     rw (p.1, p.2)
     (sym (list_begun _ _ _ _ c.in_ok-more.ensures ∙ c.loop-more.invariant.1 ∙ pair_bad _ _ _ _ _ c.loop-more.invariant.0 c.loop-more-test.true _ _ (c.in_err-pair.ensures.value ∙ same)))
 
 pub returns-in_err-more-2 : goal.returns-in_err-more-2
 returns-in_err-more-2 c =
-    let p = err_from_is_err_and c.from-residual-in_err-more-2.result c.from-residual-in_err-more-2.ensures.1 in
+    let p = err_from_is_err_and c.from_residual-in_err-more-2.result c.from_residual-in_err-more-2.ensures.1 in
     let same = ap (λ xs. a_pair c.args.list (map placed_pair xs) (tokens_ahead c.loop-more.reader)) c.as_slice.ensures.value in
     rw (p.1, p.2)
     (sym (list_begun _ _ _ _ c.in_ok-more.ensures ∙ c.loop-more.invariant.1 ∙ comma_bad _ _ _ _ _ c.loop-more.invariant.0 c.loop-more-test.true _ _ _ _ (c.in_ok-pair.ensures.value ∙ same) c.in_err-more-2.ensures))
