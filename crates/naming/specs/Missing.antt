@@ -1,6 +1,5 @@
 -- Rows that a station must have and that a text lacks.
-use Rattle.std.specs.Prelude.{Bool, true, false, not, ◌&&◌, ◌||◌, List, []}
-use Rattle.station.specs.declared.tests.Position.TheVariants.{Normal, Reverse}
+use Rattle.std.specs.Prelude.{Bool, false, not, ◌||◌, List, []}
 use Rattle.firsts.specs.Lists.{any}
 use Rattle.forms.specs.Things.{Spot, Thing, segment, point, route, zone, subroute}
 use Rattle.rows.specs.declared.filters.Kind.TheVariants as kind

@@ -36,13 +36,15 @@ fn some_unreleased<'a>(rows: &[Row<'a>], pairs: &[Pair<'a>]) -> bool
 fn lacking<'a>(rows: &[Row<'a>], row: &Row<'a>) -> bool
     ensures { result ≡ lacking (map placed_row rows.now) (placed_row row.now) }
 {
+    // No second name.
+    let none: &'a [u8] = b"";
     match row {
         Row::Point(p) => {
-            !known(rows, Kind::NormalMove, p.name.octets, b"")
-                || !known(rows, Kind::ReverseMove, p.name.octets, b"")
+            !known(rows, Kind::NormalMove, p.name.octets, none)
+                || !known(rows, Kind::ReverseMove, p.name.octets, none)
         }
         Row::Request(q) => {
-            !known(rows, Kind::Activation, q.route.octets, b"")
+            !known(rows, Kind::Activation, q.route.octets, none)
                 || some_unreleased(rows, q.actions.as_slice())
         }
         Row::Segment(_) => false,

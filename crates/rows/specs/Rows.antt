@@ -1,5 +1,5 @@
 -- The rows of a text. N is what stands for a name: its octets, or these with the offset of its word.
-use Rattle.std.specs.Prelude.{ℕ, List, [], map, vec_items, Vec}
+use Rattle.std.specs.Prelude.{List, [], map, vec_items}
 use Rattle.station.specs.declared.tests.Position.{Position}
 use Rattle.forms.specs.declared.states.State.{State}
 use Rattle.forms.specs.Things.{Spot, Thing, spot, placed}

@@ -1,5 +1,5 @@
 -- Rows of the data, read off the tokens ahead: the rows so far, what the row is about, the tokens.
-use Rattle.std.specs.Prelude.{ℕ, cond, List, [], codes}
+use Rattle.std.specs.Prelude.{ℕ, cond, [], codes}
 use Rattle.text.specs.Ahead.{Ahead}
 use Rattle.text.specs.Out.{Out, got, bad, bind}
 use Rattle.station.specs.declared.tests.Position.{Position}

@@ -1,5 +1,5 @@
 -- The words that a row wants, read off the tokens ahead: what stands there instead is a fault of form.
-use Rattle.std.specs.Prelude.{ℕ, Bool, true, false, cond, List, Some, None, codes, Option}
+use Rattle.std.specs.Prelude.{ℕ, cond, List, Some, None, codes, Option}
 use Rattle.std.specs.Str.{bytes_eq}
 use Rattle.text.specs.Tokens.{star, comma, word}
 use Rattle.text.specs.Ahead.{Ahead, ends, spoilt, token}

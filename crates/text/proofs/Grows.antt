@@ -1,11 +1,10 @@
 -- A token takes an octet at least.
-use Rattle.std.proofs.Common.{◌≡◌, ℕ, ◌+◌, ◌<◌, ◌≤◌, Bool, true, false, cond, not, ◌||◌, eqb, leb, List, length, get_or, Some, None, Ok, Err, Option, Result, sym, refl, ap, ◌∙◌, arith}
-use Rattle.std.proofs.lemmas.Bool.{leb-false, le-leb, or_from, not_from_false, cond-true, ltb-true}
-use Rattle.text.specs.declared.faults.WordFault.{WordFault}
+use Rattle.std.proofs.Common.{◌≡◌, ℕ, ◌+◌, ◌<◌, ◌≤◌, Bool, true, false, cond, eqb, leb, List, length, get_or, Some, None, Ok, refl, arith}
+use Rattle.std.proofs.lemmas.Bool.{leb-false, le-leb, or_from, not_from_false, cond-true}
 use Rattle.text.specs.declared.octets.Class.TheVariants.{Blank, Inner}
-use Rattle.text.specs.Octets.{blank, inner, past}
+use Rattle.text.specs.Octets.{blank, past}
 use Rattle.text.specs.Tokens.{Item, star, comma, word_between, as_item, token_at, end_at, next_token, next_place}
-use Rattle.text.proofs.Pasts.{past_yes, past_end, past_stops}
+use Rattle.text.proofs.Pasts.{past_yes, past_stops}
 
 module _ (t : List ℕ) (s : ℕ) where
   abbrev octet : ℕ

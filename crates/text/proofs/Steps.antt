@@ -1,8 +1,8 @@
 -- The tokens ahead are the next one and those after it.
-use Rattle.std.proofs.Common.{◌≡◌, ℕ, zero, suc, ◌+◌, ◌-◌, ◌<◌, ◌≤◌, List, length, Some, None, Ok, Err, Option, Result, sym, refl, ap, ◌∙◌, arith}
+use Rattle.std.proofs.Common.{◌≡◌, ℕ, zero, suc, ◌-◌, ◌≤◌, List, length, Some, None, Ok, Err, Option, Result, sym, refl, ap, ◌∙◌, arith}
 use Rattle.text.specs.declared.faults.WordFault.{WordFault}
 use Rattle.text.specs.Tokens.{Item, next_token, next_place}
-use Rattle.text.specs.Ahead.{Ahead, ends, follow, tokens_within, tokens_from}
+use Rattle.text.specs.Ahead.{Ahead, follow, tokens_within, tokens_from}
 use Rattle.text.proofs.Grows.{grows, none_past}
 
 module _ (t : List ℕ) where

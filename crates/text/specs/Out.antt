@@ -1,6 +1,5 @@
 -- What a step over the tokens ahead comes to: a value and the tokens then ahead, or a fault by number and offset.
 use Rattle.std.specs.Prelude.{ℕ, Bool, true, false, Some, None, Ok, Err, Option, Result}
-use Rattle.std.specs.Option.{option_map}
 use Rattle.text.specs.declared.faults.WordFault.{WordFault}
 use Rattle.text.specs.declared.tokens.Token.{Token}
 use Rattle.text.specs.declared.tokens.Token.TheVariants.{Star, Comma, Word}

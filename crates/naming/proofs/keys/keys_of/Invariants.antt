@@ -1,5 +1,5 @@
 use Rattle.std.proofs.Common.{◌≡◌, map, vec_items}
-use Rattle.firsts.proofs.Picks.{goal as picked}
+use Rattle.firsts.proofs.Picks.{given as picked}
 use Rattle.rows.specs.Rows.{placed_row}
 use Rattle.naming.specs.Keys.{names, key_in}
 use Rattle.naming.proofs.keys.keys_of.Given as goal

@@ -1,6 +1,6 @@
 use Rattle.std.proofs.Common.{map, sym, ap, ◌∙◌}
 use Rattle.firsts.proofs.Somes.{some_stop, some_go, some_end}
-use Rattle.rows.specs.Rows.{placed_pair, placed_row}
+use Rattle.rows.specs.Rows.{placed_row}
 use Rattle.naming.specs.Missing.{lacking}
 use Rattle.naming.proofs.missing.some_lacking.Goals as goal
 

@@ -1,7 +1,7 @@
 use Rattle.std.proofs.Common.{◌≡◌, map}
 use Rattle.firsts.specs.Lists.{any}
 use Rattle.firsts.proofs.Somes.{passing}
-use Rattle.rows.specs.Rows.{placed_pair, placed_row}
+use Rattle.rows.specs.Rows.{placed_row}
 use Rattle.naming.specs.Missing.{lacking}
 use Rattle.naming.proofs.missing.some_lacking.Given as goal
 

@@ -1,4 +1,4 @@
-use Rattle.std.proofs.Common.{map, sym, ap, ◌∙◌}
+use Rattle.std.proofs.Common.{map, sym}
 use Rattle.firsts.proofs.Somes.{some_stop, some_go, some_end}
 use Rattle.rows.specs.Rows.{placed_pair, placed_row}
 use Rattle.naming.specs.Missing.{unreleased_pair}

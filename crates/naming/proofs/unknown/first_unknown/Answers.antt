@@ -1,6 +1,6 @@
 use Rattle.std.proofs.Common.{sym, ap, ◌∙◌}
 use Rattle.firsts.proofs.Picks.{first_stop, first_go, first_end}
-use Rattle.rows.specs.Rows.{placed_pair, placed_row}
+use Rattle.rows.specs.Rows.{placed_row}
 use Rattle.naming.specs.Index.{indexed}
 use Rattle.naming.specs.Unknown.{unknown_in_row}
 use Rattle.naming.proofs.unknown.first_unknown.Goals as goal

@@ -1,7 +1,7 @@
 use Rattle.std.proofs.Common.{◌≡◌, map}
 use Rattle.firsts.specs.Picks.{first_in}
 use Rattle.firsts.proofs.Picks.{found}
-use Rattle.rows.specs.Rows.{placed_pair, placed_row}
+use Rattle.rows.specs.Rows.{placed_row}
 use Rattle.naming.specs.Index.{indexed}
 use Rattle.naming.specs.Unknown.{unknown_in_row}
 use Rattle.naming.proofs.unknown.first_unknown.Given as goal

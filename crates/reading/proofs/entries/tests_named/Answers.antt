@@ -1,4 +1,4 @@
-use Rattle.std.proofs.Common.{◌≡◌, cond, Some, None, Option, sym, ap, ◌∙◌}
+use Rattle.std.proofs.Common.{cond, Some, None, sym, ap, ◌∙◌}
 use Rattle.firsts.proofs.Picks.{first_stop, first_go, first_end}
 use Rattle.rows.specs.Rows.{placed_row, tests_of}
 use Rattle.reading.specs.Entries.{tests_if}

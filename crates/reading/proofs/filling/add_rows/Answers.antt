@@ -1,4 +1,4 @@
-use Rattle.std.proofs.Common.{◌≡◌, ◌+◌, map, drop, sym, ap, ◌∙◌}
+use Rattle.std.proofs.Common.{◌+◌, map, drop, ap, ◌∙◌}
 use Rattle.rows.specs.Rows.{placed_row}
 use Rattle.naming.specs.Index.{indexed}
 use Rattle.station.specs.Station.{station}

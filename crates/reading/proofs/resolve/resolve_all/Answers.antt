@@ -1,4 +1,4 @@
-use Rattle.std.proofs.Common.{◌≡◌, vec_items, sym, ap, ◌∙◌}
+use Rattle.std.proofs.Common.{vec_items, sym, ap, ◌∙◌}
 use Rattle.firsts.specs.Picks.{picks}
 use Rattle.firsts.proofs.Picks.{pick_yes, pick_no, pick_all}
 use Rattle.rows.specs.Rows.{placed_pair}

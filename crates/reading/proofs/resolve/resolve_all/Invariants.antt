@@ -1,5 +1,5 @@
 use Rattle.std.proofs.Common.{◌≡◌, vec_items}
-use Rattle.firsts.proofs.Picks.{goal as picked}
+use Rattle.firsts.proofs.Picks.{given as picked}
 use Rattle.rows.specs.Rows.{placed_pair}
 use Rattle.naming.specs.Index.{indexed}
 use Rattle.reading.proofs.resolve.resolve_all.Given as goal

@@ -1,4 +1,4 @@
-use Rattle.std.proofs.Common.{◌≡◌, map, length, ap, ◌∙◌, subst}
+use Rattle.std.proofs.Common.{map, length, ap, ◌∙◌, subst}
 use Rattle.rows.specs.Rows.{placed_row}
 use Rattle.sheets.specs.Layout.{Sofar}
 use Rattle.sheets.specs.Outcomes.{Outcome, done}

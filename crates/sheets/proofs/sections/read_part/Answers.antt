@@ -1,4 +1,4 @@
-use Rattle.std.proofs.Common.{◌≡◌, sym, ◌∙◌}
+use Rattle.std.proofs.Common.{sym, ◌∙◌}
 use Rattle.std.proofs.lemmas.Result.{err_from_is_err_and}
 use Rattle.sheets.proofs.Turns.{part_refuses, part_ends, part_goes, part_over, refuses_like}
 use Rattle.sheets.proofs.sections.read_part.Goals as goal

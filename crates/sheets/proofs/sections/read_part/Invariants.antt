@@ -6,4 +6,4 @@ use Rattle.sheets.proofs.sections.read_part.Given as goal
 abbrev pub invariant-loop-i : goal.invariant-loop-i
 invariant-loop-i l =
     section l.length l.length l.part (rows_of l.initial.rows) (tokens_ahead l.initial.reader)
-    ≡ section (l.length - l.-i) l.length l.part (rows_of l.rows) (tokens_ahead l.reader)
+    ≡ section (l.length - l._i) l.length l.part (rows_of l.rows) (tokens_ahead l.reader)

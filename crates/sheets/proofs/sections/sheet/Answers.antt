@@ -1,4 +1,4 @@
-use Rattle.std.proofs.Common.{◌≡◌, sym, ◌∙◌}
+use Rattle.std.proofs.Common.{sym, ◌∙◌}
 use Rattle.std.proofs.lemmas.Result.{err_from_is_err_and}
 use Rattle.sheets.proofs.Turns.{refuses_like, begun, too_long, layout_refused, data_refused, data_read}
 use Rattle.sheets.proofs.sections.sheet.Goals as goal

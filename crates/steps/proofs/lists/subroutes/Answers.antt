@@ -1,4 +1,4 @@
-use Rattle.std.proofs.Common.{sym, ap, ◌∙◌, arith}
+use Rattle.std.proofs.Common.{sym, ◌∙◌, arith}
 use Rattle.rows.specs.Rows.{placed_pair}
 use Rattle.firsts.proofs.Counts.{count_yes, count_no, count_all}
 use Rattle.steps.specs.Pairs.{runs, subroutes}

@@ -1,6 +1,6 @@
-use Rattle.std.proofs.Common.{sym, ap, ◌∙◌}
+use Rattle.std.proofs.Common.{sym}
 use Rattle.firsts.proofs.Picks.{first_stop, first_go, first_end}
-use Rattle.rows.specs.Rows.{placed_pair, placed_row}
+use Rattle.rows.specs.Rows.{placed_pair}
 use Rattle.naming.specs.Index.{indexed}
 use Rattle.naming.specs.Unknown.{unknown_pair}
 use Rattle.naming.proofs.index.Index.unknown_in.Goals as goal

@@ -1,4 +1,4 @@
-use Rattle.std.proofs.Common.{◌≡◌, false, sym, ap, ◌∙◌}
+use Rattle.std.proofs.Common.{false, sym, ap, ◌∙◌}
 use Rattle.text.specs.Out.{got}
 use Rattle.text.specs.Ahead.{tokens_ahead, tokens_from, place_of}
 use Rattle.text.proofs.Looks.{comma_passed, comma_left}

@@ -1,5 +1,5 @@
-use Rattle.std.proofs.Common.{◌≡◌, length, sym, ap, ◌∙◌}
-use Rattle.text.specs.Tokens.{yielded, next_token, next_place}
+use Rattle.std.proofs.Common.{length, sym, ap, ◌∙◌}
+use Rattle.text.specs.Tokens.{yielded, next_place}
 use Rattle.text.specs.Ahead.{tokens_from, tokens_ahead, text_of, place_of, follow}
 use Rattle.text.proofs.Steps.{tokens_step}
 use Rattle.text.proofs.reader.Reader.next.Goals as goal
