@@ -2,15 +2,15 @@
 // accepted station ends the program with status 0; for a person, the reason goes to standard error.
 #![tactic(auto)]
 
-use anyhow::anyhow;
 use station::Tables;
 use std::io::Read;
+use std::process::ExitCode;
 use verdicts::{Explained, Line, Verdict, judge};
 
 // One octet more than the longest text, so that a longer one is told.
 const MOST: u64 = 32_769;
 
-fn main(rt: HostRuntime) -> anyhow::Result<()> {
+fn main(rt: HostRuntime) -> anyhow::Result<ExitCode> {
     let heap = rt.alloc();
     let mut text = Vec::new(heap);
     let mut input = rt.stdin().take(MOST);
@@ -24,7 +24,7 @@ fn main(rt: HostRuntime) -> anyhow::Result<()> {
     };
     println!(rt; "{line}")?;
     if let Verdict::Accepted(_, _) = verdict {
-        return Ok(());
+        return Ok(ExitCode::SUCCESS);
     }
     let explained = Explained {
         tables: &tables,
@@ -32,5 +32,5 @@ fn main(rt: HostRuntime) -> anyhow::Result<()> {
         text: text.as_slice(),
     };
     eprintln!(rt; "{explained}")?;
-    Err(anyhow!("not accepted"))
+    Ok(ExitCode::FAILURE)
 }
