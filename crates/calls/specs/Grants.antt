@@ -1,5 +1,5 @@
 -- Request, activation and release: when each is refused, and what it leaves.
-use Rattle.std.specs.Prelude.{◌≡◌, ℕ, Bool, true, false, cond, List, [], ◌∷◌, length, Some, None, Option, Result, nat_lt}
+use Rattle.std.specs.Prelude.{◌≡◌, ℕ, true, false, cond, List, [], ◌∷◌, length, Some, None, Option, Result, nat_lt}
 use Rattle.conditions.specs.Firsts.{first_fails}
 use Rattle.conditions.specs.States.{State, a_state}
 use Rattle.conditions.specs.Tests.{activation_holds, release_holds, request_holds}

@@ -6,7 +6,6 @@ use Rattle.passing.specs.Signals.{note_from, passed_routes}
 use Rattle.states.specs.Slots.{note_at, stepped, with_note}
 use Rattle.states.specs.declared.denials.Denial.{Denial}
 use Rattle.states.specs.declared.denials.Denial.TheVariants.{Track}
-use Rattle.states.specs.declared.slots.States.{States}
 use Rattle.station.specs.Station.{Station}
 use Rattle.track.specs.Calls.{place_answer, settle_refusal, settled_so}
 use Rattle.track.specs.Meaning.{Meaning, put}

@@ -1,5 +1,5 @@
 -- Opening: no train may be present; all signals are put to stop, all routes are unset, all locks free, and nothing is noted.
-use Rattle.std.specs.Prelude.{◌≡◌, ℕ, Bool, true, false, cond, length, replicate, Some, None, Ok, Err, Option, Result}
+use Rattle.std.specs.Prelude.{Bool, true, false, cond, length, replicate, Some, None, Ok, Err, Option, Result}
 use Rattle.firsts.specs.Claims.{any_below}
 use Rattle.conditions.specs.States.{State, a_state}
 use Rattle.states.specs.Slots.{fresh}

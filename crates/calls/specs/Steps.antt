@@ -3,7 +3,6 @@ use Rattle.std.specs.Prelude.{◌≡◌, ℕ, Bool, Ok, Err, Option, Result}
 use Rattle.conditions.specs.States.{State}
 use Rattle.states.specs.declared.denials.Denial.{Denial}
 use Rattle.station.specs.Station.{Station}
-use Rattle.station.specs.declared.tests.Lock.{Lock}
 use Rattle.calls.specs.Grants.{Activates, Releases, Requests}
 use Rattle.calls.specs.Moves.{Entering, Fronting, Rearing, Settling, Turning}
 use Rattle.calls.specs.declared.values.Answer.{Answer}

@@ -4,7 +4,7 @@ use Rattle.std.proofs.lemmas.List.{at_drop_more, at_drop_all}
 use Rattle.std.proofs.lemmas.Bool.{cond-true, cond-false}
 use Rattle.firsts.specs.Lists.{all}
 use Rattle.firsts.proofs.Elements.{decides_every}
-use Rattle.conditions.specs.Firsts.{FailsAt, FirstFails, fails_from, first_fails}
+use Rattle.conditions.specs.Firsts.{FirstFails, fails_from, first_fails}
 
 module _ {X : Type 0} (holds : X → Bool) (xs : List X) (i : ℕ) where
   at_next : (x : X) → i < length xs → x ≡ get_or xs i x → fails_from holds (i + 1) (drop i xs) ≡ cond (holds x) (fails_from holds (i + 1 + 1) (drop (i + 1) xs)) (Some (i + 1))

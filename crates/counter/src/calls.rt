@@ -6,8 +6,8 @@ ghost use Rattle.track.specs.Meaning.{laid, state_at};
 ghost use Rattle.std.proofs.Common.{rules};
 
 use crate::throws::{Counter, one_more};
-use alike::Same;
 use acceptance::Accepted;
+use alike::Same;
 use station::Position;
 use track::{Aspect, PointState, Refusal, Trackside, Train};
 

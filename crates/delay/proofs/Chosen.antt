@@ -5,7 +5,6 @@ use Rattle.track.specs.Calls.{place_answer, train_refusal}
 use Rattle.track.specs.Meaning.{Meaning, train_at}
 use Rattle.track.specs.Refusals.{after}
 use Rattle.track.specs.declared.states.Train.{Train}
-use Rattle.holding.specs.Seen.{off_at}
 use Rattle.holding.specs.declared.courses.Course.{Course}
 use Rattle.holding.proofs.Answered.{changed, granted}
 use Rattle.delay.specs.Delays.{goes_down, kept_off}

@@ -1,5 +1,5 @@
 -- What a question gives over a list: its first answer, and all its answers.
-use Rattle.std.specs.Prelude.{List, [], ◌∷◌, ◌++◌, Some, None, Option}
+use Rattle.std.specs.Prelude.{List, [], ◌∷◌, ◌++◌, None, Option}
 use Rattle.std.specs.Option.{option_to_list}
 use Rattle.firsts.specs.Search.{or_else}
 

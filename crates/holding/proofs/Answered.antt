@@ -1,5 +1,5 @@
 -- What the answer of a call tells of its refusal.
-use Rattle.std.proofs.Common.{◌≡◌, ℕ, Bool, true, false, cond, Some, None, Ok, Err, MatchBool, Option, Result, sym, refl, ap, arith}
+use Rattle.std.proofs.Common.{◌≡◌, ℕ, Bool, true, false, cond, Some, None, Ok, Err, MatchBool, Option, sym, refl, ap, arith}
 use Rattle.track.specs.Refusals.{after, answer}
 use Rattle.track.specs.declared.refusals.Refusal.{Refusal}
 use Rattle.track.specs.declared.refusals.Refusal.TheVariants.{Unknown, Mismatch}

@@ -2,7 +2,6 @@
 use Rattle.std.proofs.Common.{◌≡◌, ℕ, zero, suc, ◌<◌, Bool, true, false, ◌&&◌, eqb, List, [], ◌∷◌, length, get_or, set, sym, refl, ap, ◌∙◌, le_of_suc-le-suc, not-suc-le-zero}
 use Rattle.std.proofs.lemmas.List.{set-get_or}
 use Rattle.track.specs.Meaning.{Meaning, a_point, no_state, state_at, train_at}
-use Rattle.track.specs.declared.states.PointState.{PointState}
 use Rattle.track.specs.declared.states.Train.{Train}
 use Rattle.track.specs.declared.states.Train.TheVariants.{Absent, Present}
 use Rattle.holding.specs.Seen.{count_at, each_by, hold, marked, off_at, seen}

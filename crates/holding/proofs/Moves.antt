@@ -1,5 +1,5 @@
 -- What becomes of a move, step by step: the step of the layer's meaning against that of the track below.
-use Rattle.std.proofs.Common.{◌≡◌, ℕ, Bool, true, false, cond, ◌⊎◌, List, Some, None, Option, sym, refl, ap, ◌∙◌, inl, inr, arith}
+use Rattle.std.proofs.Common.{◌≡◌, ℕ, Bool, true, false, cond, ◌⊎◌, List, Some, None, Option, refl, ap, ◌∙◌, inl, inr}
 use Rattle.station.specs.Station.{Station}
 use Rattle.track.specs.Meaning.{Meaning}
 use Rattle.track.specs.Steps.{derailing, front_by, front_train, in_one, on_track, rear_train, refused, turn_by, turn_train}

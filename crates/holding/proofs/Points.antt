@@ -1,5 +1,5 @@
 -- Calls on points and signals, seen through a layer that holds points in motion.
-use Rattle.std.proofs.Common.{◌≡◌, ℕ, ◌-◌, ◌<◌, ◌≤◌, Bool, true, false, cond, ◌&&◌, eqb, ltb, List, length, get_or, set, Some, None, Ok, Err, Option, Result, sym, refl, ap, ◌∙◌, subst, arith}
+use Rattle.std.proofs.Common.{◌≡◌, ℕ, ◌-◌, ◌<◌, ◌≤◌, Bool, true, false, cond, ◌&&◌, eqb, ltb, List, length, set, Some, None, Ok, Err, Result, sym, refl, ap, ◌∙◌, subst, arith}
 use Rattle.std.proofs.lemmas.List.{get_or-set_same, set-get_or}
 use Rattle.std.proofs.lemmas.Bool.{ltb-true}
 use Rattle.station.specs.Alike.{same_position}
@@ -12,7 +12,7 @@ use Rattle.track.specs.declared.refusals.Refusal.{Refusal}
 use Rattle.track.specs.declared.refusals.Refusal.TheVariants.{Unknown, AtRest, Mismatch}
 use Rattle.track.specs.declared.states.Aspect.{Aspect}
 use Rattle.track.specs.declared.states.PointState.{PointState}
-use Rattle.holding.specs.Seen.{count_at, hold, marked, one_fewer, seen}
+use Rattle.holding.specs.Seen.{count_at, hold, one_fewer, seen}
 use Rattle.holding.proofs.Answered.{after_map, before, changed, denied, granted, known, passed, unchanged}
 use Rattle.holding.proofs.Eaches.{length_each, set_each, set_first, set_second, state_seen}
 

@@ -1,29 +1,26 @@
 -- Calls on trains, seen through a layer that keeps trains derailed.
-use Rattle.std.proofs.Common.{◌≡◌, ℕ, zero, suc, ◌<◌, Bool, true, false, cond, not, ◌||◌, eqb, ltb, ◌⊎◌, List, length, set, Some, None, Ok, Err, Option, Result, sym, refl, ap, ◌∙◌, subst, inl, inr, arith, MatchOption}
+use Rattle.std.proofs.Common.{◌≡◌, ℕ, zero, suc, ◌<◌, Bool, true, false, cond, not, ◌||◌, ltb, ◌⊎◌, List, length, set, Some, None, Ok, Err, Option, Result, sym, refl, ap, ◌∙◌, inl, inr, arith, MatchOption}
 use Rattle.std.proofs.lemmas.Bool.{ltb-true}
 use Rattle.firsts.specs.Claims.{any_below}
 use Rattle.station.specs.Joints.{across}
 use Rattle.station.specs.Numbers.{signal_at}
 use Rattle.station.specs.Station.{Station}
-use Rattle.track.specs.Calls.{Enters, Fronts, Rears, Turns, clear_answer, place_answer, train_refusal}
+use Rattle.track.specs.Calls.{Enters, clear_answer, place_answer, train_refusal}
 use Rattle.track.specs.Meaning.{Meaning, aspect_at, clear, fits, put, train_at, with_train}
 use Rattle.track.specs.Refusals.{answer}
-use Rattle.track.specs.Steps.{derailing, done, enter_step, enter_train, front_step, front_train, is_outside, on_train, rear_step, rear_train, refused, turn_step, turn_train}
-use Rattle.track.specs.Trains.{come_in, holds, off_track}
+use Rattle.track.specs.Steps.{done, enter_step, enter_train, is_outside, on_train, refused}
+use Rattle.track.specs.Trains.{come_in, holds}
 use Rattle.track.specs.Ways.{is_stop}
 use Rattle.track.specs.declared.refusals.Refusal.{Refusal}
-use Rattle.track.specs.declared.refusals.Refusal.TheVariants.{Unknown, Presence, StopAhead, OffTrack, Mismatch}
-use Rattle.track.specs.declared.states.Place.{Place}
+use Rattle.track.specs.declared.refusals.Refusal.TheVariants.{Unknown, StopAhead, OffTrack, Mismatch}
 use Rattle.track.specs.declared.states.Step.{Step}
 use Rattle.track.specs.declared.states.Train.{Train}
 use Rattle.track.specs.declared.states.Train.TheVariants.{Absent, Present}
-use Rattle.holding.specs.Courses.{HeldWays, course, rear_course}
 use Rattle.holding.specs.Seen.{marked, off_at, seen}
-use Rattle.holding.specs.declared.courses.Course.{Course}
 use Rattle.holding.specs.declared.courses.Course.TheVariants.{Down, Off, Derails}
 use Rattle.holding.proofs.Answered.{denied, granted, guard, known}
 use Rattle.holding.proofs.Eaches.{set_each, set_first, set_second, train_seen, unmarked}
-use Rattle.holding.proofs.Moves.{Becomes, front_becomes, rear_becomes, turn_becomes}
+use Rattle.holding.proofs.Moves.{Becomes}
 use Rattle.holding.proofs.Points.{fits_same}
 
 holds_same : (t : Train) (off : Bool) (k : ℕ) → holds (marked t off) k ≡ holds t k

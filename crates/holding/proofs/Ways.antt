@@ -11,7 +11,7 @@ use Rattle.station.specs.declared.tables.Setting.{Setting}
 use Rattle.track.specs.Meaning.{Meaning, state_at}
 use Rattle.track.specs.Ways.{Fits, LeadsOut, WaysLeadOut, other_end, way_out}
 use Rattle.track.proofs.Fitting.{leads_out}
-use Rattle.holding.specs.Courses.{HeldWays, held_here, some_held}
+use Rattle.holding.specs.Courses.{HeldWays, some_held}
 use Rattle.holding.specs.Seen.{count_at, hold, seen}
 use Rattle.holding.proofs.Eaches.{state_seen}
 

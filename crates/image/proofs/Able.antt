@@ -1,8 +1,8 @@
 -- Which tracks have an image.
-use Rattle.std.proofs.Common.{◌≡◌, ℕ, ◌+◌, ◌<◌, Bool, true, false, cond, ltb, List, [], ◌∷◌, ◌++◌, length, Some, None, vec_items, All, Option, Vec, sym, refl, ap, ◌∙◌, arith}
+use Rattle.std.proofs.Common.{◌≡◌, ℕ, ◌+◌, ◌<◌, ltb, List, ◌++◌, length, Some, None, vec_items, Option, Vec, refl, ap, ◌∙◌, arith}
 use Rattle.std.specs.declared.alloc.Global.{Global}
 use Rattle.std.proofs.lemmas.Bool.{cond-true, lt-ltb, ltb-true}
-use Rattle.motor.specs.Kept.{Kept, keeping}
+use Rattle.motor.specs.Kept.{Kept}
 use Rattle.octets.specs.Each.{Told, each}
 use Rattle.octets.specs.Frames.{head, rest}
 use Rattle.octets.specs.Writes.{aspect_octet, run_octet, train_octets}
@@ -11,7 +11,7 @@ use Rattle.octets.proofs.Able.{each_only, each_there, points_written, trains_wri
 use Rattle.octets.proofs.Inverses.{all_any, each_long}
 use Rattle.octets.proofs.Records.{guarded}
 use Rattle.track.specs.declared.states.Aspect.{Aspect}
-use Rattle.image.specs.Image.{flat, image, then, whole}
+use Rattle.image.specs.Image.{flat, image, then}
 use Rattle.image.specs.Laws.{AnswersWhere, ImageWritten, Writable}
 use Rattle.image.proofs.Cuts.{given}
 use Rattle.image.proofs.Wholes.{image_by}

@@ -1,5 +1,5 @@
 -- A track made from octets: what it keeps, and that nothing else is kept by a track with this image.
-use Rattle.std.proofs.Common.{◌≡◌, ℕ, ◌+◌, ◌<◌, ◌≤◌, true, false, ◌&&◌, eqb, leb, List, [], ◌∷◌, ◌++◌, length, get_or, drop, Some, None, Ok, Err, Option, Result, sym, refl, ap, ◌∙◌, append_assoc, append-nil, arith, MatchOption}
+use Rattle.std.proofs.Common.{◌≡◌, ℕ, ◌+◌, ◌<◌, ◌≤◌, true, false, eqb, leb, List, ◌++◌, length, get_or, drop, Some, None, Ok, Err, Option, Result, sym, refl, ap, ◌∙◌, append_assoc, append-nil, arith, MatchOption}
 use Rattle.std.proofs.lemmas.List.{at_drop_all, at_drop_more, length-take}
 use Rattle.std.proofs.lemmas.Bool.{and_from, both_ways, eq-eqb, le-leb}
 use Rattle.motor.specs.Kept.{Kept, keeping, kept, may_keep}

@@ -1,5 +1,5 @@
 -- An image is read as what it is the image of, and as nothing else.
-use Rattle.std.proofs.Common.{◌≡◌, ℕ, ◌+◌, ◌-◌, ◌*◌, ◌≤◌, true, cond, leb, List, ◌++◌, length, take, drop, Some, None, All, Option, sym, refl, ap, ◌∙◌, subst, arith}
+use Rattle.std.proofs.Common.{◌≡◌, ℕ, ◌+◌, ◌≤◌, true, cond, leb, List, ◌++◌, length, take, drop, Some, None, sym, ap, ◌∙◌, subst, arith}
 use Rattle.std.proofs.lemmas.List.{drop_at, length-append, length-drop, length-take-le, take-append-drop, take_at}
 use Rattle.std.proofs.lemmas.Bool.{cond-true, le-leb, leb-true}
 use Rattle.motor.specs.Kept.{Kept, keeping}
@@ -7,7 +7,6 @@ use Rattle.motor.specs.declared.runs.Run.{Run}
 use Rattle.track.specs.declared.states.Aspect.{Aspect}
 use Rattle.track.specs.declared.states.Train.{Train}
 use Rattle.octets.specs.Each.{each}
-use Rattle.octets.specs.Laws.{TrainDeclared}
 use Rattle.octets.specs.Reads.{aspect_of, run_of, train_of}
 use Rattle.octets.specs.Writes.{aspect_octet, run_octet, train_octets}
 use Rattle.octets.proofs.Inverses.{all_any, all_meant, all_read, all_written, each_long}

@@ -1,5 +1,5 @@
 -- An image and what a motor track keeps mean each other.
-use Rattle.std.specs.Prelude.{◌≡◌, ℕ, ◌+◌, ◌<◌, ◌≤◌, List, length, Some, None, Ok, Err, All, Option, Result, MatchOption, ◌≢◌}
+use Rattle.std.specs.Prelude.{◌≡◌, ℕ, ◌+◌, ◌<◌, ◌≤◌, List, length, Some, All, Option, Result, MatchOption, ◌≢◌}
 use Rattle.std.specs.Result as results
 use Rattle.motor.specs.Kept.{Kept, kept}
 use Rattle.motor.specs.declared.kept.Motor.{Motor}

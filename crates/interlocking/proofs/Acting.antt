@@ -1,5 +1,5 @@
 -- Actions one after another, one more at the end.
-use Rattle.std.proofs.Common.{◌≡◌, ℕ, ◌+◌, ◌<◌, ◌≤◌, List, [], ◌∷◌, ◌++◌, length, get_or, take, sym, refl, subst}
+use Rattle.std.proofs.Common.{ℕ, ◌+◌, ◌<◌, ◌≤◌, List, [], ◌∷◌, ◌++◌, length, get_or, take, sym, refl, subst}
 use Rattle.std.proofs.lemmas.List.{take_all, take_more}
 use Rattle.calls.specs.Grants.{Acted, AllActed}
 use Rattle.conditions.specs.States.{State}

@@ -1,6 +1,6 @@
 -- Every signal of a trackside put to stop, one after another.
-use Rattle.std.proofs.Common.{◌≡◌, ℕ, zero, suc, ◌+◌, ◌<◌, ◌≤◌, Bool, true, cond, ◌&&◌, eqb, ltb, List, [], ◌∷◌, length, set, replicate, Some, None, sym, refl, ap, ◌∙◌, subst, add-one, arith, length-set, lt-ltb, eqb-true}
-use Rattle.std.proofs.lemmas.Bool.{and_parts, cond-true}
+use Rattle.std.proofs.Common.{◌≡◌, ℕ, zero, suc, ◌+◌, ◌<◌, Bool, true, cond, ◌&&◌, eqb, List, [], ◌∷◌, length, set, replicate, Some, None, refl, ap, ◌∙◌, add-one, arith, length-set, lt-ltb, eqb-true}
+use Rattle.std.proofs.lemmas.Bool.{and_parts}
 use Rattle.calls.specs.Grants.{shown}
 use Rattle.calls.specs.Opening.{all_stop}
 use Rattle.station.specs.Station.{Station}

@@ -5,8 +5,8 @@ ghost use Rattle.interlocking.specs.Machines.{state_of};
 ghost use Rattle.track.specs.Meaning.{laid};
 
 use crate::machine::Machine;
-use calls::{Answer, Call};
 use acceptance::Accepted;
+use calls::{Answer, Call};
 use states::Denial;
 use track::Trackside;
 

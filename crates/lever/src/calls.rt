@@ -7,8 +7,8 @@ ghost use Rattle.track.specs.Refusals.{after, answer};
 ghost use Rattle.std.proofs.Common.{rules, arith};
 
 use crate::kept::Lever;
-use alike::Same;
 use acceptance::Accepted;
+use alike::Same;
 use moves::{enter_step, front_step, rear_step, turn_step};
 use standing::{
     Standing, clear_refusal, is_clear, point_refusal, settle_refusal, signal_refusal, train_refusal,

@@ -11,7 +11,7 @@ use Rattle.station.specs.declared.tests.ReleaseTest.TheVariants.{Unset, Free, Cl
 use Rattle.station.specs.Station.{Station}
 use Rattle.station.specs.Numbers.{release_at, point_at}
 use Rattle.station.specs.Subroutes.{subroutes, segment_of}
-use Rattle.station.specs.Paths.{path, path_length, on_path, Uses, used}
+use Rattle.station.specs.Paths.{path, path_length, on_path, Uses}
 use Rattle.station.proofs.Alike.{decides_release}
 use Rattle.station.proofs.Paths.{decides_uses, decides_used}
 use Rattle.station.proofs.Covers.{decides_where, decides_point_guards}

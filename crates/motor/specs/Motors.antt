@@ -1,5 +1,5 @@
 -- What a motor track means, and how its motors run.
-use Rattle.std.specs.Prelude.{ℕ, ◌-◌, Bool, cond, List, map, vec_items, ◌==◌, slice_index_or, slice_set}
+use Rattle.std.specs.Prelude.{ℕ, ◌-◌, cond, List, map, vec_items, ◌==◌, slice_index_or, slice_set}
 use Rattle.station.specs.Alike.{same_position}
 use Rattle.station.specs.declared.tests.Position.{Position}
 use Rattle.station.specs.declared.tests.Position.TheVariants.{Normal}

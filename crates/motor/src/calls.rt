@@ -9,8 +9,8 @@ ghost use Rattle.std.proofs.lemmas.List.{length-map};
 
 use crate::kept::Motor;
 use crate::runs::started;
-use alike::Same;
 use acceptance::Accepted;
+use alike::Same;
 use moves::{enter_step, front_step, rear_step, turn_step};
 use standing::{
     Standing, clear_refusal, is_clear, point_refusal, settle_refusal, signal_refusal, train_refusal,

@@ -1,10 +1,8 @@
 -- A point, a signal and a train are read from the octets that stand for them, and from no others.
-use Rattle.std.proofs.Common.{◌≡◌, ℕ, ◌+◌, ◌-◌, ◌<◌, ◌≤◌, Bool, true, false, cond, ◌&&◌, eqb, ltb, leb, List, [], ◌∷◌, length, get_or, Some, None, Option, sym, refl, ap, ◌∙◌, subst, arith}
+use Rattle.std.proofs.Common.{◌≡◌, ℕ, Bool, true, false, cond, eqb, List, [], ◌∷◌, length, get_or, Some, None, Option, sym, refl, ap, ◌∙◌, subst, arith}
 use Rattle.std.proofs.lemmas.Bool.{eqb-true}
 use Rattle.std.proofs.lemmas.Bool.Decides.{nat_tests}
 use Rattle.motor.specs.declared.runs.Run.{Run}
-use Rattle.station.specs.declared.tests.Position.{Position}
-use Rattle.station.specs.declared.tests.Position.TheVariants.{Normal, Reverse}
 use Rattle.track.specs.declared.states.Aspect.{Aspect}
 use Rattle.track.specs.declared.states.Aspect.TheVariants.{Stop, Proceed}
 use Rattle.track.specs.Trains.{present}
@@ -12,8 +10,8 @@ use Rattle.track.specs.declared.states.Front.{Front}
 use Rattle.track.specs.declared.states.Front.TheVariants.{In, Outside}
 use Rattle.track.specs.declared.states.Train.{Train}
 use Rattle.track.specs.declared.states.Train.TheVariants.{Absent, Present}
-use Rattle.octets.specs.Laws.{Means, Any, PointsLaw, SignalsLaw, TrainDeclared, TrainsLaw}
-use Rattle.octets.specs.Reads.{aspect_of, four_of, run_of, in_motion, train_of}
+use Rattle.octets.specs.Laws.{PointsLaw, SignalsLaw, TrainDeclared, TrainsLaw}
+use Rattle.octets.specs.Reads.{aspect_of, four_of, run_of, train_of}
 use Rattle.octets.specs.Writes.{aspect_octet, four, octet, place_octets, run_octet, train_octets}
 
 aspect_written : (b : ℕ) (a : Aspect) → aspect_of b ≡ Some a → Some (aspect_octet a) ≡ Some b

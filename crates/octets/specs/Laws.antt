@@ -1,7 +1,6 @@
 -- Reading and writing are inverse to each other, record by record.
-use Rattle.std.specs.Prelude.{◌≡◌, ℕ, ◌<◌, ◌≤◌, Bool, false, List, Some, None, Option}
+use Rattle.std.specs.Prelude.{◌≡◌, ℕ, ◌<◌, ◌≤◌, Bool, false, Some, None, Option}
 use Rattle.motor.specs.declared.runs.Run.{Run}
-use Rattle.track.specs.declared.states.Aspect.{Aspect}
 use Rattle.track.specs.declared.states.Front.{Front}
 use Rattle.track.specs.declared.states.Front.TheVariants.{In, Outside}
 use Rattle.track.specs.declared.states.Train.{Train}

@@ -1,5 +1,5 @@
 -- The point, signal and train that octets mean.
-use Rattle.std.specs.Prelude.{ℕ, ◌+◌, ◌-◌, Bool, true, false, cond, ◌&&◌, List, length, Some, None, Option, ◌==◌, nat_le, nat_lt, slice_index}
+use Rattle.std.specs.Prelude.{ℕ, ◌-◌, Bool, true, cond, ◌&&◌, List, length, Some, None, Option, ◌==◌, nat_le, nat_lt, slice_index}
 use Rattle.motor.specs.Motors.{a_run}
 use Rattle.motor.specs.declared.runs.Run.{Run}
 use Rattle.station.specs.declared.tests.Position.TheVariants.{Normal, Reverse}

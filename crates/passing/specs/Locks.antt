@@ -1,5 +1,5 @@
 -- The locks of a station, their release rows, and whether an interlocking has slots for a station.
-use Rattle.std.specs.Prelude.{ℕ, Bool, ◌&&◌, List, length, nat_le, nat_lt}
+use Rattle.std.specs.Prelude.{Bool, ◌&&◌, List, length, nat_le, nat_lt}
 use Rattle.station.specs.Numbers.{release_at, zone_at}
 use Rattle.station.specs.Station.{Station}
 use Rattle.station.specs.Subroutes.{subroutes}

@@ -1,5 +1,5 @@
 -- The signal of each route, and what becomes of the routes from a signal when a train passes it.
-use Rattle.std.specs.Prelude.{◌≡◌, ℕ, zero, suc, ◌<◌, Bool, true, false, cond, ◌&&◌, length, Some, None, Option, ◌==◌}
+use Rattle.std.specs.Prelude.{ℕ, zero, suc, Bool, false, cond, ◌&&◌, length, Some, None, Option, ◌==◌}
 use Rattle.std.specs.Option.{option_map}
 use Rattle.firsts.specs.Search.{first_below}
 use Rattle.station.specs.Paths.{on_path}

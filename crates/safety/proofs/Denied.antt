@@ -1,5 +1,5 @@
 -- What it says that a call is not refused.
-use Rattle.std.proofs.Common.{◌≡◌, ℕ, Bool, true, false, cond, Some, None, Option, refl, arith}
+use Rattle.std.proofs.Common.{◌≡◌, ℕ, Bool, true, false, cond, Some, None, Option, refl}
 use Rattle.states.specs.Denials.{by_test}
 use Rattle.safety.proofs.Rows.{some_none}
 

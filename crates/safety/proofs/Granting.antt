@@ -4,7 +4,6 @@ use native.Mathlib.Decide.{ℕ_discrete}
 use Rattle.std.proofs.lemmas.Bool.{and_parts, lt-ltb, ltb-true}
 use Rattle.station.specs.Station.{Station}
 use Rattle.station.specs.Numbers.{route_at}
-use Rattle.station.specs.Subroutes.{subroutes}
 use Rattle.station.specs.Paths.{path_length, on_path}
 use Rattle.station.specs.declared.tests.ActivationTest.{ActivationTest}
 use Rattle.station.specs.declared.tests.ActivationTest.TheVariants as activation

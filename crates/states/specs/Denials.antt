@@ -1,7 +1,6 @@
 -- The refusals of an interlocking by number, and what a call answers and leaves that is refused or not.
 use Rattle.std.specs.Prelude.{ℕ, Some, None, Ok, Err, Option, Result}
 use Rattle.track.specs.Refusals as refusals
-use Rattle.track.specs.declared.refusals.Refusal.{Refusal}
 use Rattle.states.specs.declared.denials.Denial.{Denial}
 use Rattle.states.specs.declared.denials.Denial.TheVariants.{Track, Unknown, Occupied, Fails, Idle}
 

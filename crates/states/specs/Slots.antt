@@ -1,5 +1,5 @@
 -- The slots of an interlocking: 48 routes, 192 subroutes, 32 zones and the notes of 16 trains, by number.
-use Rattle.std.specs.Prelude.{ℕ, ◌+◌, Bool, true, false, cond, replicate, Some, None, Option, nat_lt, slice_index_or, slice_set}
+use Rattle.std.specs.Prelude.{ℕ, ◌+◌, Bool, false, cond, replicate, Some, None, Option, nat_lt, slice_index_or, slice_set}
 use Rattle.station.specs.declared.tests.Lock.{Lock}
 use Rattle.station.specs.declared.tests.Lock.TheVariants.{Zone, Subroute}
 use Rattle.states.specs.Routes.{next_state}

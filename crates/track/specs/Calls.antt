@@ -10,7 +10,6 @@ use Rattle.track.specs.declared.refusals.Refusal.{Refusal}
 use Rattle.track.specs.declared.refusals.Refusal.TheVariants.{Unknown, AtRest, Mismatch}
 use Rattle.track.specs.declared.states.Aspect.{Aspect}
 use Rattle.track.specs.declared.states.PointState.{PointState}
-use Rattle.track.specs.declared.states.Step.{Step}
 use Rattle.track.specs.declared.states.Train.{Train}
 
 -- the track fits the station, and i is one of n numbers

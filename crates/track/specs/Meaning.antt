@@ -3,11 +3,11 @@ use Rattle.std.specs.Prelude.{ℕ, Bool, true, false, not, ◌&&◌, List, lengt
 use Rattle.firsts.specs.Claims.{any_below}
 use Rattle.acceptance.specs.declared.accepted.Accepted.{Accepted}
 use Rattle.station.specs.declared.tests.Position.{Position}
-use Rattle.station.specs.declared.tests.Position.TheVariants.{Normal, Reverse}
+use Rattle.station.specs.declared.tests.Position.TheVariants.{Normal}
 use Rattle.station.specs.Station.{Station, station}
 use Rattle.track.specs.Trains.{holds}
 use Rattle.track.specs.declared.states.Aspect.{Aspect}
-use Rattle.track.specs.declared.states.Aspect.TheVariants.{Stop, Proceed}
+use Rattle.track.specs.declared.states.Aspect.TheVariants.{Stop}
 use Rattle.track.specs.declared.states.PointState.{PointState}
 use Rattle.track.specs.declared.states.Train.{Train}
 use Rattle.track.specs.declared.states.Train.TheVariants.{Absent}

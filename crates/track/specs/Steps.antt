@@ -1,12 +1,12 @@
 -- The calls on one train: enter, front, rear and turn.
-use Rattle.std.specs.Prelude.{ℕ, Bool, true, false, cond, not, ◌&&◌, length, Some, None, Option, nat_lt}
+use Rattle.std.specs.Prelude.{ℕ, Bool, true, false, cond, length, Some, None, Option, nat_lt}
 use Rattle.station.specs.Joints.{across, signalled}
 use Rattle.station.specs.Numbers.{signal_at}
 use Rattle.station.specs.Station.{Station}
 use Rattle.station.specs.declared.tables.Beyond.{Beyond}
 use Rattle.station.specs.declared.tables.Beyond.TheVariants as beyond
 use Rattle.track.specs.Meaning.{Meaning, aspect_at, fits, train_at}
-use Rattle.track.specs.Trains.{come_in, drawn_in, gone_on, off_track, present}
+use Rattle.track.specs.Trains.{come_in, drawn_in, gone_on, off_track}
 use Rattle.track.specs.Ways.{governor, halts, is_stop, way_out}
 use Rattle.track.specs.declared.refusals.Refusal.{Refusal}
 use Rattle.track.specs.declared.refusals.Refusal.TheVariants.{Unknown, Presence, StopAhead, Extent, Unsignalled, OffTrack, Mismatch}

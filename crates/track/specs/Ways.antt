@@ -1,5 +1,5 @@
 -- The way that fits a train: in its segment, at the joint by which it came in, its points settled as written.
-use Rattle.std.specs.Prelude.{◌≡◌, ℕ, ◌<◌, Bool, true, false, cond, ◌&&◌, ◌||◌, ◌⊎◌, List, length, Some, None, Contains, Option, MatchOption, ◌==◌}
+use Rattle.std.specs.Prelude.{◌≡◌, ℕ, ◌<◌, Bool, true, false, cond, ◌&&◌, ◌||◌, ◌⊎◌, length, Some, None, Contains, Option, MatchOption, ◌==◌}
 use Rattle.firsts.specs.Lists.{all}
 use Rattle.firsts.specs.Search.{first_below}
 use Rattle.station.specs.Alike.{same_position, same_signal}

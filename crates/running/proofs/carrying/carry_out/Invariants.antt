@@ -1,4 +1,4 @@
-use Rattle.std.proofs.Common.{◌≡◌, length, take, vec_len}
+use Rattle.std.proofs.Common.{◌≡◌, length, take}
 use Rattle.interlocking.specs.Machines.{state_of}
 use Rattle.running.proofs.Going.{Begins, Going}
 use Rattle.track.specs.Meaning.{Meaning, laid}

@@ -1,4 +1,4 @@
-use Rattle.std.proofs.Common.{◌≡◌, ◌+◌, take, count_by, sym, ap, ◌∙◌, arith}
+use Rattle.std.proofs.Common.{take, count_by, ap, ◌∙◌, arith}
 use Rattle.std.specs.List.{suffix_len}
 use Rattle.verdicts.specs.Places.{ends_line, within_line}
 use Rattle.verdicts.proofs.Lines.{line_lines, line_octets, inner_lines, inner_octets, whole_front}

@@ -1,7 +1,6 @@
-use Rattle.std.proofs.Common.{Ok, sym, ap, ◌∙◌}
+use Rattle.std.proofs.Common.{Ok, ap, ◌∙◌}
 use Rattle.std.proofs.lemmas.Result.{err_from_is_err_and}
 use Rattle.track.specs.Meaning.{laid, state_at}
-use Rattle.track.specs.declared.states.PointState.{PointState}
 use Rattle.holding.specs.Seen.{seen}
 use Rattle.holding.proofs.Points.{point_denied, point_seen}
 use Rattle.delay.proofs.calls.DelayTrackside.point.Goals as goal

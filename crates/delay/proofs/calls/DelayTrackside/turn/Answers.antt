@@ -4,7 +4,6 @@ use Rattle.station.specs.Station.{station}
 use Rattle.track.specs.Calls.{Turns, train_refusal}
 use Rattle.track.specs.Meaning.{laid, train_at}
 use Rattle.track.specs.Steps.{turn_train}
-use Rattle.track.specs.declared.refusals.Refusal.TheVariants.{OffTrack}
 use Rattle.holding.specs.Courses.{course}
 use Rattle.holding.specs.Seen.{marked, off_at, seen}
 use Rattle.holding.specs.declared.courses.Course.TheVariants.{Down, Off, Derails}

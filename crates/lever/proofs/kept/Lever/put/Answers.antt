@@ -1,4 +1,4 @@
-use Rattle.std.proofs.Common.{◌≡◌, ◌≤◌, length, vec_items, sym, ap, arith}
+use Rattle.std.proofs.Common.{◌≤◌, length, vec_items, sym, ap, arith}
 use Rattle.std.proofs.lemmas.List.{set_past}
 use Rattle.track.specs.Meaning.{Meaning}
 use Rattle.lever.proofs.kept.Lever.put.Goals as goal

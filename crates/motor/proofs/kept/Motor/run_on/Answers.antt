@@ -1,4 +1,4 @@
-use Rattle.std.proofs.Common.{◌-◌, eqb, set, ap, ◌∙◌}
+use Rattle.std.proofs.Common.{eqb, set, ap, ◌∙◌}
 use Rattle.motor.specs.Motors.{a_run, less_left, of_motor, runs}
 use Rattle.motor.proofs.Running.{settling}
 use Rattle.motor.proofs.kept.Motor.run_on.Goals as goal
