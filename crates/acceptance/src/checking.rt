@@ -29,6 +29,7 @@ impl<'a> Draft<'a> {
     }
 
     // An accepted station where no rule is broken, else the draft with the first breach. The board is as it was.
+    #[tactic(auto, using(crate::proofs::Verdicts::broken_some))]
     pub fn check(self, board: &mut [u8; 64]) -> Result<Accepted<'a>, (Draft<'a>, Breach)>
         ensures tables { MatchResult result (λ a. a.tables.now ≡ self.entry.tables.now) (λ p. p.0.tables.now ≡ self.entry.tables.now) }
         ensures value { MatchResult result (λ _. first_broken (station self.entry.tables.now) ≡ None) (λ p. first_broken (station self.entry.tables.now) ≡ Some p.1) }

@@ -1,9 +1,10 @@
 // Opening a machine and carrying out a list of calls.
-ghost use Rattle.std.specs.Prelude.{◌≡◌, length, IfOk, Some, None, vec_len};
+ghost use Rattle.std.specs.Prelude.{◌≡◌, length, IfOk, None, vec_len, MatchResult};
 ghost use Rattle.calls.specs.Opening.{open_denial, opened};
 ghost use Rattle.conditions.specs.States.{State};
 ghost use Rattle.interlocking.specs.Machines.{state_of};
 ghost use Rattle.running.specs.Carried.{Carried};
+ghost use Rattle.running.specs.Unruns.{GivesBack};
 ghost use Rattle.safety.specs.Histories.{History};
 ghost use Rattle.track.specs.Meaning.{Meaning, laid};
 
@@ -45,13 +46,14 @@ fn carry_out<T: Trackside>(
     }
 }
 
-// Opens a machine on the track and carries out the calls.
+// Opens a machine on the track and carries out the calls. Where no machine is opened, or there is no memory for the answers, the track comes back as it was.
 pub fn run<T: Trackside>(
     heap: Global,
     track: T,
     station: &Accepted<'_>,
     calls: &[Call],
 ) -> Result<Ran<T>, Unrun<T>>
+    ensures opens { MatchResult result (λ _. open_denial (laid station.now) (T.Trackside.meaning track) ≡ None) (GivesBack track (open_denial (laid station.now) (T.Trackside.meaning track))) }
     ensures carried { IfOk result (λ x. (h : History) × Carried (laid station.now) (T.Trackside.meaning track) calls.now x.answers.items (state_of T.Trackside.meaning x.machine) h) }
 {
     let mut answers = match vec![in heap; Answer::Done; calls.len()] {
