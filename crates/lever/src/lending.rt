@@ -3,9 +3,9 @@ ghost use Rattle.std.specs.Borrow.{follows, sem};
 ghost use Rattle.std.specs.Prelude.{◌≡◌, ◌<◌, length, IfOk, vec_len, MatchOption, slice_index_or};
 ghost use Rattle.std.specs.Vec.{with_item};
 ghost use Rattle.lever.specs.Levers.{of_lever};
-ghost use Rattle.lever.specs.contracts.kept.Lever.{the_row as lever-row};
+ghost use Rattle.lever.specs.contracts.kept.Lever.{the_row as lever_row};
 ghost use Rattle.track.specs.Meaning.{at_rest, laid, put, with_train};
-ghost use Rattle.track.specs.contracts.states.Train.{the_row as train-row};
+ghost use Rattle.track.specs.contracts.states.Train.{the_row as train_row};
 
 use crate::kept::Lever;
 use acceptance::Accepted;
@@ -44,7 +44,7 @@ impl Lever {
     // Lends one train's record to be changed; the rest of the track stays as it is.
     fn train_mut(&mut self, n: usize) -> &mut Train
         requires { n < vec_len self.old.trains }
-        ensures* follows { sem 𝓛 (follows lever-row train-row self.entry.ghost_name result.ghost_name (λ w. record { points = self.old.points; signals = self.old.signals; trains = with_item self.old.trains n w; few = self.old.few; sixteen = self.old.sixteen })) }
+        ensures* follows { sem 𝓛 (follows lever_row train_row self.entry.ghost_name result.ghost_name (λ w. record { points = self.old.points; signals = self.old.signals; trains = with_item self.old.trains n w; few = self.old.few; sixteen = self.old.sixteen })) }
         ensures value { result.now ≡ slice_index_or self.old.trains.items n result.now }
     {
         &mut self.trains[n]
