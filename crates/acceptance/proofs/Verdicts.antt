@@ -38,7 +38,7 @@ module _ (s : Station) where
   layout_from None None None None f g h i = record { rule_11 = f; rule_12 = g; rule_13 = h; rule_14 = i }
 
   layout_told : MatchOption (layout_breach s) (SoundLayout s) (FirstBroken s)
-  layout_told = layout_from (breach_11 s) (breach_12 s) (breach_13 s) (breach_14 s) (first_11 s) (first_12 s) (first_13 s) (first_14 s)
+  layout_told = layout_from (breach_11 s) (breach_12 s) (breach_13 s) (breach_14 s) (first_11 s _ refl) (first_12 s _ refl) (first_13 s _ refl) (first_14 s _ refl)
 
   routes_from : SoundLayout s → (a b c d : Option ℕ) → Breach21 s a → Breach22 s b → Breach23 s c → Breach24 s d
       → MatchOption (or_else (option_map Path a) (or_else (option_map Signals b) (or_else (option_map Request c) (option_map Activation d)))) (SoundLayout s × SoundRoutes s) (FirstBroken s)
@@ -49,7 +49,7 @@ module _ (s : Station) where
   routes_from l None None None None f g h i = (l, record { rule_21 = f; rule_22 = g; rule_23 = h; rule_24 = i })
 
   routes_told : SoundLayout s → MatchOption (route_breach s) (SoundLayout s × SoundRoutes s) (FirstBroken s)
-  routes_told l = routes_from l (breach_21 s) (breach_22 s) (breach_23 s) (breach_24 s) (first_21 s) (first_22 s) (first_23 s) (first_24 s)
+  routes_told l = routes_from l (breach_21 s) (breach_22 s) (breach_23 s) (breach_24 s) (first_21 s _ refl) (first_22 s _ refl) (first_23 s _ refl) (first_24 s _ refl)
 
   abbrev Locked : Type 0
   Locked = SoundLayout s × SoundRoutes s × Rule25 s × Rule26 s
@@ -61,7 +61,7 @@ module _ (s : Station) where
   locks_from l None None f g = (l.0, l.1, f, g)
 
   locks_told : SoundLayout s × SoundRoutes s → MatchOption (lock_breach s) Locked (FirstBroken s)
-  locks_told l = locks_from l (breach_25 s) (breach_26 s) (first_25 s) (first_26 s)
+  locks_told l = locks_from l (breach_25 s) (breach_26 s) (first_25 s _ refl) (first_26 s _ refl)
 
   conflict_from : Locked → (a : Option (ℕ × ℕ × ℕ)) → Breach27 s a → MatchOption (by_three Conflict a) (Sound s) (FirstBroken s)
   conflict_from l (Some q) f = (l.0, l.1, l.2, l.3, f)

@@ -6,7 +6,7 @@ ghost use Rattle.acceptance.specs.Soundness.{Sound, FirstBroken};
 
 use crate::accepted::Accepted;
 use crate::breaches::Breach;
-use crate::rules::rules_hold;
+use crate::rules::first_broken;
 use station::Tables;
 
 // Tables as they were read.
@@ -37,9 +37,10 @@ impl<'a> Draft<'a> {
         ensures same { board.new ≡ board.old }
     {
         let Draft { tables } = self;
-        match rules_hold(tables, board) {
-            Ok(()) => Ok(Accepted::new(tables)),
-            Err(b) => Err((Draft { tables }, b)),
+        // By a match, since the tables go on in either case.
+        match first_broken(tables, board) {
+            None => Ok(Accepted::new(tables)),
+            Some(b) => Err((Draft { tables }, b)),
         }
     }
 }

@@ -1,11 +1,13 @@
 -- Request, activation and release: when each is refused, and what it leaves.
-use Rattle.std.specs.Prelude.{◌≡◌, ℕ, true, false, cond, List, [], ◌∷◌, length, Some, None, Option, Result, nat_lt}
+use Rattle.std.specs.Prelude.{◌≡◌, ℕ, true, false, cond, List, length, Some, None, Option, Result, MatchOption, nat_lt}
+use Rattle.std.specs.Option.{option_map_or}
+use Rattle.std.specs.List.{FoldsTo}
 use Rattle.conditions.specs.Firsts.{first_fails}
 use Rattle.conditions.specs.States.{State, a_state}
 use Rattle.conditions.specs.Tests.{activation_holds, release_holds, request_holds}
 use Rattle.passing.specs.Locks.{is_declared, release_row}
 use Rattle.passing.specs.Signals.{signal_of}
-use Rattle.states.specs.Denials.{after, answer, by_test}
+use Rattle.states.specs.Denials.{by_test}
 use Rattle.states.specs.Routes.{next_state}
 use Rattle.states.specs.Slots.{is_locked, moved, route_state, with_lock}
 use Rattle.states.specs.declared.denials.Denial.{Denial}
@@ -20,7 +22,7 @@ use Rattle.station.specs.declared.tests.Lock.{Lock}
 use Rattle.station.specs.declared.tests.Position.{Position}
 use Rattle.track.specs.Calls.{driven, point_refusal, signal_refusal}
 use Rattle.track.specs.Meaning.{Meaning, state_at, with_aspect}
-use Rattle.track.specs.Refusals as refusals
+use Rattle.track.specs.Refusals.{after, answer}
 use Rattle.track.specs.declared.states.Aspect.{Aspect}
 use Rattle.track.specs.declared.states.Aspect.TheVariants.{Proceed}
 use Rattle.calls.specs.Matching.{matched}
@@ -31,7 +33,7 @@ on_route s r rest = cond (nat_lt r (length s.routes)) rest (Some Unknown)
 
 -- a point driven as the trackside drives it; the trackside chooses whether it is settled at once
 abbrev pub Driven : Station → Meaning → ℕ → Position → Meaning → Type 0
-Driven s m p x n = n ≡ refusals.after (point_refusal s m p) m (driven m p x (state_at n p).settled)
+Driven s m p x n = n ≡ after (point_refusal s m p) m (driven m p x (state_at n p).settled)
 
 -- one action of a request row
 abbrev pub Acted : Station → Action → State → State → Type 0
@@ -41,13 +43,11 @@ Acted s (Take l) v w = w ≡ a_state (with_lock v.own l true) v.track
 
 -- the actions one after another, in written order
 abbrev pub AllActed : Station → List Action → State → State → Type 0
-AllActed s [] v w = w ≡ v
-AllActed s (a ∷ more) v w = (u : State) × (Acted s a v u × AllActed s more u w)
+AllActed s xs v w = FoldsTo (λ x a y. Acted s a x y) v xs w
 
 -- refused: nothing changes; else as the relation says
 abbrev pub Leaves : Option Denial → State → Type 0 → State → Type 0
-Leaves None v done w = done
-Leaves (Some e) v done w = w ≡ v
+Leaves d v done w = MatchOption d done (λ e. w ≡ v)
 
 abbrev pub request_denial : Station → State → ℕ → Option Denial
 request_denial s v r =
@@ -59,8 +59,7 @@ pub record Requests (s : Station) (v : State) (r : ℕ) (a : Result Unit Denial)
 
 -- 34: the event does not fit the route's state
 abbrev pub on_event : Option RouteState → Option Denial → Option Denial
-on_event None rest = Some Idle
-on_event (Some x) rest = rest
+on_event o rest = option_map_or (λ x. rest) o (Some Idle)
 
 abbrev pub activate_denial : Station → State → ℕ → Option Denial
 activate_denial s v r =
@@ -69,7 +68,7 @@ activate_denial s v r =
 -- the signal, if any, shows the aspect
 abbrev pub shown : Station → Meaning → Option ℕ → Aspect → Meaning
 shown s m None x = m
-shown s m (Some n) x = refusals.after (signal_refusal s m n) m (with_aspect m n x)
+shown s m (Some n) x = after (signal_refusal s m n) m (with_aspect m n x)
 
 -- the route is active, and its first signal shows proceed
 abbrev pub activated : Station → State → ℕ → State

@@ -1,44 +1,36 @@
 -- Settling, entry, front, rear and turn: they go to the trackside, and the interlocking takes note of what comes of them.
-use Rattle.std.specs.Prelude.{◌≡◌, ℕ, Bool, true, false, cond, length, Some, None, Ok, Err, Option, Result}
-use Rattle.std.specs.Option.{option_map}
+use Rattle.std.specs.Prelude.{◌≡◌, ℕ, Bool, false, cond, length, Some, None, Ok, Err, Option, Result}
+use Rattle.std.specs.Option.{is_some, option_map, option_map_or}
+use Rattle.std.specs.Result.{result_map_both, result_unwrap_or}
 use Rattle.conditions.specs.States.{State, a_state}
 use Rattle.passing.specs.Signals.{note_from, passed_routes}
 use Rattle.states.specs.Slots.{note_at, stepped, with_note}
 use Rattle.states.specs.declared.denials.Denial.{Denial}
 use Rattle.states.specs.declared.denials.Denial.TheVariants.{Track}
 use Rattle.station.specs.Station.{Station}
-use Rattle.track.specs.Calls.{place_answer, settle_refusal, settled_so}
+use Rattle.track.specs.Calls.{place_answer, said, settle_refusal, settled_so}
 use Rattle.track.specs.Meaning.{Meaning, put}
-use Rattle.track.specs.Refusals as refusals
+use Rattle.track.specs.Refusals.{after, answer, plainly}
 use Rattle.track.specs.Steps.{enter_step, front_step, rear_step, refused, turn_step}
 use Rattle.track.specs.declared.refusals.Refusal.{Refusal}
 use Rattle.track.specs.declared.refusals.Refusal.TheVariants.{Mismatch}
 use Rattle.track.specs.declared.states.Aspect.TheVariants.{Stop}
-use Rattle.track.specs.declared.states.Front.{Front}
-use Rattle.track.specs.declared.states.Front.TheVariants.{In, Outside}
 use Rattle.track.specs.declared.states.Step.{Step}
-use Rattle.track.specs.declared.states.Train.{Train}
-use Rattle.track.specs.declared.states.Train.TheVariants.{Absent, Present}
+use Rattle.track.specs.Trains.{Train}
 use Rattle.calls.specs.Grants.{shown}
 use Rattle.calls.specs.Matching.{matches}
 
--- the truth value that was answered
-abbrev pub said_so : Result Bool Denial → Bool
-said_so (Ok b) = b
-said_so (Err e) = false
-
 -- what the trackside answers is answered
 abbrev pub lifted : {A : Type 0} → Result A Refusal → Result A Denial
-lifted (Ok x) = Ok x
-lifted (Err e) = Err (Track e)
+lifted r = result_map_both (λ x. x) (λ e. Track e) r
 
 abbrev pub settling_refusal : Station → Meaning → ℕ → Option Refusal
 settling_refusal s m p = cond (matches s m) (settle_refusal s m p) (Some Mismatch)
 
 -- the trackside chooses whether the point settles, and says which
 pub record Settling (s : Station) (v : State) (p : ℕ) (a : Result Bool Denial) (w : State) : Type 0 where
-  pub answers : a ≡ lifted (refusals.answer (settling_refusal s v.track p) (said_so a))
-  pub leaves : w ≡ a_state v.own (refusals.after (settling_refusal s v.track p) v.track (settled_so v.track p (said_so a)))
+  pub answers : a ≡ lifted (answer (settling_refusal s v.track p) (said a))
+  pub leaves : w ≡ a_state v.own (after (settling_refusal s v.track p) v.track (settled_so v.track p (said a)))
 
 -- a step of the trackside, where it matches and the interlocking has slots for the station
 abbrev pub guarded : Station → Meaning → Step → Step
@@ -58,19 +50,9 @@ abbrev pub passed : Station → State → ℕ → ℕ → State
 passed s v t n =
     a_state (with_note (passed_routes s n v.own (length s.routes)) t (note_from s n v.own)) (shown s v.track (Some n) Stop)
 
--- the front is in a segment
-abbrev pub is_in : Front → Bool
-is_in (In t) = true
-is_in Outside = false
-
-abbrev pub front_in : Train → Bool
-front_in Absent = false
-front_in (Present p) = is_in p.front
-
 -- the trackside answers that the train's front is in a segment
 abbrev pub is_inside : Result Train Refusal → Bool
-is_inside (Ok t) = front_in t
-is_inside (Err e) = false
+is_inside r = option_map_or (λ p. is_some p.front) (result_unwrap_or r None) false
 
 -- one place further on, where the front has come into a segment
 abbrev pub advanced : Station → State → ℕ → State
@@ -102,25 +84,18 @@ rearing s v t = guarded s v.track (rear_step s v.track t)
 abbrev pub turning : Station → State → ℕ → Step
 turning s v t = guarded s v.track (turn_step s v.track t)
 
--- what the trackside answers to a step that has no value, and to a front
-abbrev pub plainly : Step → Result Unit Refusal
-plainly step = refusals.answer step.refusal tt
-
-abbrev pub told_front : Step → Result (Option ℕ) Refusal
-told_front step = refusals.answer step.refusal step.passed
-
 pub record Entering (s : Station) (v : State) (t n : ℕ) (a : Result Unit Denial) (w : State) : Type 0 where
-  pub answers : a ≡ lifted (plainly (entering s v t n))
-  pub leaves : w ≡ by_answer (plainly (entering s v t n)) (carried v t (entering s v t n)) (passed s (carried v t (entering s v t n)) t n)
+  pub answers : a ≡ lifted (plainly (entering s v t n).answer)
+  pub leaves : w ≡ by_answer (entering s v t n).answer (carried v t (entering s v t n)) (passed s (carried v t (entering s v t n)) t n)
 
 pub record Fronting (s : Station) (v : State) (t : ℕ) (a : Result (Option ℕ) Denial) (w : State) : Type 0 where
-  pub answers : a ≡ lifted (told_front (fronting s v t))
-  pub leaves : w ≡ by_front s (carried v t (fronting s v t)) t (told_front (fronting s v t))
+  pub answers : a ≡ lifted (fronting s v t).answer
+  pub leaves : w ≡ by_front s (carried v t (fronting s v t)) t (fronting s v t).answer
 
 pub record Rearing (s : Station) (v : State) (t : ℕ) (a : Result Unit Denial) (w : State) : Type 0 where
-  pub answers : a ≡ lifted (plainly (rearing s v t))
+  pub answers : a ≡ lifted (plainly (rearing s v t).answer)
   pub leaves : w ≡ carried v t (rearing s v t)
 
 pub record Turning (s : Station) (v : State) (t : ℕ) (a : Result Unit Denial) (w : State) : Type 0 where
-  pub answers : a ≡ lifted (plainly (turning s v t))
-  pub leaves : w ≡ by_answer (plainly (turning s v t)) (carried v t (turning s v t)) (turned (carried v t (turning s v t)) t)
+  pub answers : a ≡ lifted (plainly (turning s v t).answer)
+  pub leaves : w ≡ by_answer (turning s v t).answer (carried v t (turning s v t)) (turned (carried v t (turning s v t)) t)

@@ -1,5 +1,7 @@
 -- Opening: no train may be present; all signals are put to stop, all routes are unset, all locks free, and nothing is noted.
-use Rattle.std.specs.Prelude.{Bool, true, false, cond, length, replicate, Some, None, Ok, Err, Option, Result}
+use Rattle.std.specs.Prelude.{Bool, cond, length, replicate, Some, None, Option, Result}
+use Rattle.std.specs.Option.{is_some}
+use Rattle.std.specs.Result.{result_unwrap_or}
 use Rattle.firsts.specs.Claims.{any_below}
 use Rattle.conditions.specs.States.{State, a_state}
 use Rattle.states.specs.Slots.{fresh}
@@ -10,18 +12,12 @@ use Rattle.track.specs.Calls.{place_answer}
 use Rattle.track.specs.Meaning.{Meaning}
 use Rattle.track.specs.declared.refusals.Refusal.{Refusal}
 use Rattle.track.specs.declared.states.Aspect.TheVariants.{Stop}
-use Rattle.track.specs.declared.states.Train.{Train}
-use Rattle.track.specs.declared.states.Train.TheVariants.{Absent, Present}
+use Rattle.track.specs.Trains.{Train}
 use Rattle.calls.specs.Matching.{matched}
-
-abbrev pub is_present : Train → Bool
-is_present Absent = false
-is_present (Present p) = true
 
 -- the trackside answers that the train is present
 abbrev pub told_present : Result Train Refusal → Bool
-told_present (Ok t) = is_present t
-told_present (Err e) = false
+told_present r = is_some (result_unwrap_or r None)
 
 abbrev pub some_present : Station → Meaning → Bool
 some_present s m = any_below (λ i. told_present (place_answer s m i)) 16

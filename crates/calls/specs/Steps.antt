@@ -10,18 +10,20 @@ use Rattle.calls.specs.declared.values.Answer.TheVariants.{Done, Settled, Passed
 use Rattle.calls.specs.declared.values.Call.{Call}
 use Rattle.calls.specs.declared.values.Call.TheVariants.{Request, Activate, Release, Settle, Enter, Front, Rear, Turn}
 
+-- a refusal, or what is answered to a value
+abbrev pub answered : {A : Type 0} → (A → Answer) → Result A Denial → Answer
+answered f (Ok x) = f x
+answered f (Err e) = Refused e
+
 -- what is answered to a call that has no value, whether a point settled, the signal that was passed
 abbrev pub done_answer : Result Unit Denial → Answer
-done_answer (Ok x) = Done
-done_answer (Err e) = Refused e
+done_answer r = answered (λ x. Done) r
 
 abbrev pub settled_answer : Result Bool Denial → Answer
-settled_answer (Ok b) = Settled b
-settled_answer (Err e) = Refused e
+settled_answer r = answered (λ b. Settled b) r
 
 abbrev pub passed_answer : Result (Option ℕ) Denial → Answer
-passed_answer (Ok n) = Passed n
-passed_answer (Err e) = Refused e
+passed_answer r = answered (λ n. Passed n) r
 
 -- the call, answered so, leads from the state v to the state w
 abbrev pub Steps : Station → State → Call → Answer → State → Type 0

@@ -2,7 +2,7 @@
 use states::Denial;
 use station::Lock;
 
-#[derive(Clone, Copy)]
+#[derive(Clone, Copy, PartialEq)]
 pub enum Call {
     // a route
     Request(usize),
@@ -17,7 +17,7 @@ pub enum Call {
     Turn(usize),
 }
 
-#[derive(Clone, Copy)]
+#[derive(Clone, Copy, PartialEq)]
 pub enum Answer {
     Done,
     // whether the point settled

@@ -14,28 +14,26 @@ use verdicts::{Line, judge};
 #[derive(Drop)]
 struct Case {
     label: String,
-    text: Vec<u8>,
-    // whether a line of the text has been seen
-    begun: bool,
+    // none until a line of it has been seen
+    text: Option<Vec<u8>>,
 }
 
 impl Case {
     fn new(heap: Global, label: &str) -> anyhow::Result<Case> {
         let label = String::from_str(heap, label)?;
-        let text = Vec::new(heap);
-        Ok(Case {
-            label,
-            text,
-            begun: false,
-        })
+        Ok(Case { label, text: None })
     }
 
-    fn add_line(&mut self, line: &[u8]) -> anyhow::Result<()> {
-        if self.begun {
-            self.text.push(b'\n')?;
-        }
-        self.begun = true;
-        Unescaper::new().add_all(line, &mut self.text)?;
+    fn add_line(&mut self, heap: Global, line: &[u8]) -> anyhow::Result<()> {
+        let mut text = match self.text.take() {
+            Some(mut text) => {
+                text.push(b'\n')?;
+                text
+            }
+            None => Vec::new(heap),
+        };
+        Unescaper::new().add_all(line, &mut text)?;
+        self.text = Some(text);
         Ok(())
     }
 
@@ -45,7 +43,8 @@ impl Case {
         let label = self.label.as_str();
         let mut tables = Tables::new(heap);
         let mut board = [7u8; 64];
-        let verdict = judge(self.text.as_slice(), heap, &mut tables, &mut board);
+        let text: &[u8] = self.text.as_ref().map_or(&[], |t| t.as_slice());
+        let verdict = judge(text, heap, &mut tables, &mut board);
         let line = Line {
             tables: &tables,
             verdict,
@@ -61,12 +60,12 @@ fn main(rt: HostRuntime) -> anyhow::Result<()> {
     for line in BufReader::new(heap, rt.stdin())?.lines(heap) {
         let line = line?;
         if let Some(label) = line.as_str().strip_prefix("== ") {
-            if case.begun {
+            if case.text.is_some() {
                 case.run(&rt)?;
             }
             case = Case::new(heap, label)?;
         } else {
-            case.add_line(line.as_bytes())?;
+            case.add_line(heap, line.as_bytes())?;
         }
     }
     case.run(&rt)

@@ -1,13 +1,9 @@
 -- The first test of a row that fails, by its place from 1.
-use Rattle.std.specs.Prelude.{◌≡◌, ℕ, suc, ◌+◌, ◌<◌, Bool, true, false, cond, List, [], ◌∷◌, length, Some, None, Contains, Option, MatchOption, slice_index_or}
-
--- the place is counted from k on
-unfoldable pub fails_from : {X : Type 0} → (X → Bool) → ℕ → List X → Option ℕ
-fails_from holds k [] = None
-fails_from holds k (x ∷ xs) = cond (holds x) (fails_from holds (k + 1) xs) (Some k)
+use Rattle.std.specs.Prelude.{◌≡◌, ℕ, suc, ◌+◌, ◌<◌, Bool, true, false, not, List, length, Contains, Option, MatchOption, position, slice_index_or}
+use Rattle.std.specs.Option.{option_map}
 
 abbrev pub first_fails : {X : Type 0} → (X → Bool) → List X → Option ℕ
-first_fails holds xs = fails_from holds 1 xs
+first_fails holds xs = option_map (λ i. i + 1) (position (λ x. not (holds x)) xs)
 
 -- the test at place k, from 1, fails, and those before it hold
 pub record FailsAt {X : Type 0} (holds : X → Bool) (xs : List X) (k : ℕ) : Type 0 where

@@ -1,4 +1,5 @@
 pub mod States
+pub mod Views
 pub mod Tests
 pub mod Firsts
 pub mod Weaker

@@ -1,5 +1,6 @@
 -- When a test of a row holds, for each of the four kinds of row.
-use Rattle.std.specs.Prelude.{ℕ, Bool, not, ◌&&◌, ◌||◌, List, Ok, Err, Result}
+use Rattle.std.specs.Prelude.{ℕ, Bool, not, ◌&&◌, ◌||◌, List, Result}
+use Rattle.std.specs.Result.{result_unwrap_or}
 use Rattle.firsts.specs.Lists.{all}
 use Rattle.station.specs.Alike.{same_position}
 use Rattle.station.specs.Numbers.{point_at}
@@ -26,8 +27,7 @@ use Rattle.conditions.specs.States.{State}
 
 -- a point as the trackside answers; one of which it answers nothing is normal and not settled
 abbrev pub told : Result PointState Refusal → PointState
-told (Ok p) = p
-told (Err e) = no_state
+told r = result_unwrap_or r no_state
 
 abbrev pub point_told : Station → Meaning → ℕ → PointState
 point_told s m p = told (point_answer s m p)

@@ -35,8 +35,5 @@ module _ (b : List ℕ) (s : Station) (r : ℕ) (shows : Shows b s r) where
       first_same (λ o. paired o (lowest_on b s r o)) (λ o. paired o (lowest_open s r o)) (λ o. ap (paired o) (least_same (open_on b s r o) (open_at s r o) (open_is o) (path_length s o))) (length s.routes)
 
 -- as a search over a board that is lent answers it
-pub other_is : (b c : List ℕ) (s : Station) (r n : ℕ) → b ≡ c → n ≡ length s.routes → Shows c s r → first_below (λ o. paired o (lowest_on b s r o)) n ≡ first_other s r
-other_is b c s r n e m shows =
-    ap (first_below (λ o. paired o (lowest_on b s r o))) m
-    ∙ ap (λ x. first_below (λ o. paired o (lowest_on x s r o)) (length s.routes)) e
-    ∙ others_are c s r shows
+pub other_is : (b c : List ℕ) (s : Station) (r : ℕ) → b ≡ c → Shows c s r → first_below (λ o. paired o (lowest_on b s r o)) (length s.routes) ≡ first_other s r
+other_is b c s r e shows = ap (λ x. first_below (λ o. paired o (lowest_on x s r o)) (length s.routes)) e ∙ others_are c s r shows

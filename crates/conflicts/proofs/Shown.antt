@@ -3,6 +3,7 @@ use Rattle.std.proofs.Common.{◌≡◌, ℕ, ◌+◌, ◌<◌, ◌≤◌, Bool,
 use Rattle.std.proofs.lemmas.List.{get_or-replicate, get_or-set_same, get_or-set_other}
 use Rattle.std.proofs.lemmas.Bool.{cases_eq, eq-eqb, ne_eqb}
 use Rattle.firsts.specs.Claims.{any_below}
+use Rattle.firsts.proofs.Below.{any_more}
 use Rattle.station.specs.Station.{Station}
 use Rattle.station.specs.Subroutes.{segment_of}
 use Rattle.station.specs.Paths.{path_length, on_path}
@@ -17,12 +18,10 @@ pub record ShowsTo (b : List ℕ) (s : Station) (r k : ℕ) : Type 0 where
   pub cell : (t : ℕ) → t < 64 → get_or b t 0 ≡ cond (met s r k t) 1 0
 
 pub shows_none : (s : Station) (r : ℕ) → ShowsTo (replicate 64 0) s r 0
-unfolding any_below
 shows_none s r = record { long = refl; cell = λ t l. get_or-replicate 64 t 0 0 l }
 
 met_more : (s : Station) (r k t : ℕ) → met s r (k + 1) t ≡ (eqb (segment_of s (on_path s r k)) t || met s r k t)
-unfolding any_below
-met_more s r k t = ap (λ n. met s r n t) (add-one k)
+met_more s r k t = any_more (λ i. eqb (segment_of s (on_path s r i)) t) k
 
 pub shows_more : (b : List ℕ) (s : Station) (r k v : ℕ) → v ≡ segment_of s (on_path s r k) → v < 64 → ShowsTo b s r k → ShowsTo (set b v 1) s r (k + 1)
 shows_more b s r k v e in' h =

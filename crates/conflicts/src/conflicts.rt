@@ -4,8 +4,7 @@ ghost use Rattle.station.specs.Station.{station};
 ghost use Rattle.conflicts.specs.Conflicts.{breach_27, Breach27};
 
 use crate::marks::Marks;
-use crate::pairs::Others;
-use firsts::first;
+use crate::pairs::Marked;
 use lookups::route_count;
 use station::Tables;
 
@@ -15,16 +14,16 @@ pub fn rule_27(tables: &Tables, board: &mut [u8; 64]) -> Option<(usize, usize, u
     ensures first { Breach27 (station tables.now) result }
     ensures same { board.new ≡ board.old }
 {
-    let routes = route_count(tables);
     let mut marks = Marks::new(board);
-    for route in 0..routes {
+    // A loop, since a closure that changes the board says nothing of what it leaves there.
+    for route in 0..route_count(tables) {
         marks.show(tables, route);
-        let others = Others {
+        let marked = Marked {
             board: marks.board(),
             tables,
             route,
         };
-        if let Some((other, segment)) = first(&others, routes) {
+        if let Some((other, segment)) = marked.first_conflict() {
             return Some((route, other, segment));
         }
     }

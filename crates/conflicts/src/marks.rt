@@ -7,6 +7,7 @@ use lookups::segment_of;
 use paths::{on_path, path_length};
 use station::Tables;
 
+// 0 and 1 for a mark, since the caller lends the board as octets.
 pub(crate) struct Marks<'b> {
     board: &'b mut [u8; 64],
     saved: [u8; 64],
@@ -29,6 +30,7 @@ impl<'b> Marks<'b> {
         ensures lender { self.new.board.ghost_name ≡ self.old.board.ghost_name }
     {
         *self.board = [0; 64];
+        // By index in a loop: of what a closure changes, or a write through `get_mut` of a slice, nothing is promised.
         for k in 0..path_length(tables, route) {
             let t = segment_of(tables, on_path(tables, route, k));
             if t < 64 {

@@ -7,7 +7,6 @@ ghost use Rattle.std.proofs.Common.{rules};
 
 use crate::throws::{Counter, one_more};
 use acceptance::Accepted;
-use alike::Same;
 use station::Position;
 use track::{Aspect, PointState, Refusal, Trackside, Train};
 
@@ -25,7 +24,7 @@ impl<T: Trackside> Trackside for Counter<T> {
     {
         let p = self.below.point(station, point)?;
         self.below.drive(station, point, to)?;
-        if !p.target.same(&to) {
+        if p.target != to {
             self.throws[point] = one_more(self.throws[point]);
         }
         Ok(())
@@ -38,6 +37,7 @@ impl<T: Trackside> Trackside for Counter<T> {
         self.below.settle(station, point)
     }
 
+    // This call and those after it only go down; no trait can say that once for the calls of every layer.
     fn show(&mut self, station: &Accepted<'_>, signal: usize, aspect: Aspect) -> Result<(), Refusal>
         ensures every { Shows (laid station.now) (T.Trackside.meaning self.old.below) signal aspect result (T.Trackside.meaning self.new.below) }
         ensures same { self.new.throws ≡ self.old.throws }

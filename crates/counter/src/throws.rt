@@ -24,7 +24,7 @@ pub struct Counter<T: Trackside> {
 pub(crate) fn one_more(n: u32) -> u32
     ensures { result ≡ one_more n }
 {
-    if n < u32::MAX { n + 1 } else { n }
+    n.saturating_add(1)
 }
 
 impl<T: Trackside> Counter<T> {

@@ -1,5 +1,5 @@
 -- What a delay keeps after each call, and which calls go down to the track below.
-use Rattle.std.specs.Prelude.{ℕ, ◌-◌, Bool, true, false, List, Result, slice_set}
+use Rattle.std.specs.Prelude.{ℕ, ◌-◌, Bool, true, false, cond, is_ok, List, Result, slice_set}
 use Rattle.station.specs.Station.{Station}
 use Rattle.station.specs.declared.tests.Position.{Position}
 use Rattle.track.specs.Calls.{point_refusal, train_refusal}
@@ -28,7 +28,7 @@ held_answer s m h i = answer (point_refusal s m i) (hold (state_at m i) (count_a
 
 -- which trains are kept derailed after an entry
 abbrev pub marks_entered : Station → Meaning → Holding → ℕ → ℕ → List Bool
-marks_entered s m h i g = after (enter_step s m i g).refusal h.derailed (slice_set h.derailed i false)
+marks_entered s m h i g = cond (is_ok (enter_step s m i g).answer) (slice_set h.derailed i false) h.derailed
 
 -- what becomes of front and turn of the train i
 abbrev pub move_course : Station → Meaning → Holding → ℕ → Course

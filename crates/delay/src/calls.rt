@@ -1,6 +1,6 @@
 // The eleven calls: what the layer itself does not answer goes down, and what the track below answers comes up.
-ghost use Rattle.std.specs.Prelude.{◌≡◌, MatchBool};
-ghost use Rattle.delay.specs.Delays.{counts_driven, counts_settled, draw_course, goes_down, held_answer, marks_entered, marks_moved, move_course};
+ghost use Rattle.std.specs.Prelude.{◌≡◌, if◌then◌else◌, MatchBool};
+ghost use Rattle.delay.specs.Delays.{counts_driven, counts_settled, draw_course, goes_down, held_answer, kept_off, marks_entered, marks_moved, move_course};
 ghost use Rattle.holding.specs.Seen.{holds_back, through};
 ghost use Rattle.track.specs.Calls.{Drives, Settles, Shows, Enters, Fronts, Rears, Turns};
 ghost use Rattle.track.specs.Meaning.{laid};
@@ -8,9 +8,25 @@ ghost use Rattle.holding.proofs.Eaches.{length_each};
 
 use crate::delays::Delay;
 use acceptance::Accepted;
-use holding::{Course, held_ways};
+use holding::{Course, Holding, held_ways};
 use station::Position;
 use track::{Aspect, PointState, Refusal, Trackside, Train};
+
+// Refuses a train whose course does not go down, and keeps one derailed that derails so.
+fn follow(holding: &mut Holding, train: usize, course: Course) -> Result<(), Refusal>
+    ensures answers { result ≡ (if goes_down course then Ok tt else Err Refusal.OffTrack) }
+    ensures derailed { holding.new.derailed ≡ kept_off course holding.old.derailed train }
+    ensures same { holding.new.counts ≡ holding.old.counts }
+{
+    match course {
+        Course::Down => Ok(()),
+        Course::Off => Err(Refusal::OffTrack),
+        Course::Derails => {
+            holding.mark(train, true);
+            Err(Refusal::OffTrack)
+        }
+    }
+}
 
 impl<T: Trackside> Trackside for Delay<T> {
     ghost meaning = { λ d. through (T.Trackside.meaning d.below) d.holding };
@@ -47,6 +63,7 @@ impl<T: Trackside> Trackside for Delay<T> {
         Ok(self.holding.seen_point(point, p).settled)
     }
 
+    // This call and two of the questions only go down; no trait can say that once for every layer.
     fn show(&mut self, station: &Accepted<'_>, signal: usize, aspect: Aspect) -> Result<(), Refusal>
         ensures every { Shows (laid station.now) (through (T.Trackside.meaning self.old.below) self.old.holding) signal aspect result (through (T.Trackside.meaning self.new.below) self.new.holding) }
         ensures below { Shows (laid station.now) (T.Trackside.meaning self.old.below) signal aspect result (T.Trackside.meaning self.new.below) }
@@ -76,14 +93,9 @@ impl<T: Trackside> Trackside for Delay<T> {
     {
         let t = self.below.place(station, train)?;
         held_ways(station);
-        match self.holding.course(station.tables(), train, t) {
-            Course::Down => self.below.front(station, train),
-            Course::Off => Err(Refusal::OffTrack),
-            Course::Derails => {
-                self.holding.mark(train, true);
-                Err(Refusal::OffTrack)
-            }
-        }
+        let course = self.holding.course(station.tables(), train, t);
+        follow(&mut self.holding, train, course)?;
+        self.below.front(station, train)
     }
 
     // What every trackside promises; a train that the layer keeps derailed stays so, and any other draws in below.
@@ -93,14 +105,13 @@ impl<T: Trackside> Trackside for Delay<T> {
         ensures same { (self.new.holding ≡ self.old.holding) × (self.new.settlings ≡ self.old.settlings) }
     {
         let t = self.below.place(station, train)?;
-        match self.holding.rear_course(train, t) {
-            Course::Down => self.below.rear(station, train),
-            Course::Off => Err(Refusal::OffTrack),
-            Course::Derails => Err(Refusal::OffTrack),
-        }
+        let Course::Down = self.holding.rear_course(train, t) else {
+            return Err(Refusal::OffTrack);
+        };
+        self.below.rear(station, train)
     }
 
-    // As front.
+    // As front; a closure for the last call would borrow `below` beside the holding.
     fn turn(&mut self, station: &Accepted<'_>, train: usize) -> Result<(), Refusal>
         ensures every { Turns (laid station.now) (through (T.Trackside.meaning self.old.below) self.old.holding) train result (through (T.Trackside.meaning self.new.below) self.new.holding) }
         ensures below { MatchBool (goes_down (move_course (laid station.now) (T.Trackside.meaning self.old.below) self.old.holding train)) (Turns (laid station.now) (T.Trackside.meaning self.old.below) train result (T.Trackside.meaning self.new.below)) (self.new.below ≡ self.old.below) }
@@ -109,21 +120,18 @@ impl<T: Trackside> Trackside for Delay<T> {
     {
         let t = self.below.place(station, train)?;
         held_ways(station);
-        match self.holding.course(station.tables(), train, t) {
-            Course::Down => self.below.turn(station, train),
-            Course::Off => Err(Refusal::OffTrack),
-            Course::Derails => {
-                self.holding.mark(train, true);
-                Err(Refusal::OffTrack)
-            }
-        }
+        let course = self.holding.course(station.tables(), train, t);
+        follow(&mut self.holding, train, course)?;
+        self.below.turn(station, train)
     }
 
     fn point(&self, station: &Accepted<'_>, point: usize) -> Result<PointState, Refusal> {
-        let p = self.below.point(station, point)?;
-        Ok(self.holding.seen_point(point, p))
+        self.below
+            .point(station, point)
+            .map(|p| self.holding.seen_point(point, p))
     }
 
+    #[tactic(auto, using(holding::proofs::Eaches::length_each))]
     fn signal(&self, station: &Accepted<'_>, signal: usize) -> Result<Aspect, Refusal> {
         self.below.signal(station, signal)
     }
@@ -133,7 +141,8 @@ impl<T: Trackside> Trackside for Delay<T> {
     }
 
     fn place(&self, station: &Accepted<'_>, train: usize) -> Result<Train, Refusal> {
-        let t = self.below.place(station, train)?;
-        Ok(self.holding.seen_train(train, t))
+        self.below
+            .place(station, train)
+            .map(|t| self.holding.seen_train(train, t))
     }
 }

@@ -1,54 +1,53 @@
--- Tests of every number and of some number below a bound: the steps of a loop, and what they tell.
-use Rattle.std.proofs.Common.{◌≡◌, ℕ, ◌+◌, ◌<◌, ◌≤◌, Bool, true, false, ◌&&◌, ◌||◌, Decides, sym, refl, ap, ◌∙◌, add-one, arith}
-use Rattle.std.proofs.lemmas.Bool.{both_ways}
-use Rattle.std.proofs.lemmas.Bool.Decides.{Decides-below_and, Decides-below_or}
+-- What tests of every number and of some number below a bound tell.
+use Rattle.std.proofs.Common.{◌≡◌, ℕ, ◌+◌, ◌<◌, Bool, true, false, ◌||◌, List, [], ◌∷◌, ◌++◌, map-id, refl, ap, length, get_or, Decides, All, sym, ◌∙◌, subst, arith}
+use Rattle.std.specs.List.{HoldsAt, list_any, range_with_len}
+use Rattle.std.proofs.lemmas.Bool.Decides.{Decides-like}
+use Rattle.std.proofs.lemmas.List.FromFn.{length-range_with_len, get_or-range_with_len, map-range_with_len_more}
 use Rattle.firsts.specs.Claims.{all_below, any_below}
+use Rattle.firsts.proofs.Elements.{decides_all, decides_any}
+
+module _ (n : ℕ) where
+  -- the k-th of the numbers below n is k
+  at : (k d : ℕ) → k < n → get_or (range_with_len 0 n) k d ≡ k
+  at k d l = get_or-range_with_len 0 n k d l ∙ omega arith
+
+  inside : (k : ℕ) → k < length (range_with_len 0 n) → k < n
+  inside k l = let e = length-range_with_len 0 n in omega (arith, l, e)
+
+  within : (k : ℕ) → k < n → k < length (range_with_len 0 n)
+  within k l = let e = length-range_with_len 0 n in omega (arith, l, e)
+
+  module _ (P : ℕ → Type 0) where
+    each_below : All P (range_with_len 0 n) → (k : ℕ) → k < n → P k
+    each_below h k l = subst P (at k 0 l) (h k 0 (within k l))
+
+    all_numbers : ((k : ℕ) → k < n → P k) → All P (range_with_len 0 n)
+    all_numbers h = λ k d l. subst P (sym (at k d (inside k l))) (h k (inside k l))
+
+    one_below : (k : ℕ) × (k < length (range_with_len 0 n)) × HoldsAt P (range_with_len 0 n) k → (k : ℕ) × (k < n) × P k
+    one_below h = (h.0, inside h.0 h.1, subst P (at h.0 0 (inside h.0 h.1)) (h.2 0))
+
+    some_number : (k : ℕ) × (k < n) × P k → (k : ℕ) × (k < length (range_with_len 0 n)) × HoldsAt P (range_with_len 0 n) k
+    some_number h = (h.0, within h.0 h.1, λ d. subst P (sym (at h.0 d h.1)) h.2)
 
 -- a test of every number below n tells what its parts tell
 pub decides_all_below : {p : ℕ → Bool} (P : ℕ → Type 0) → ((k : ℕ) → Decides (p k) (P k)) → (n : ℕ) → Decides (all_below p n) ((k : ℕ) → k < n → P k)
-unfolding all_below
-decides_all_below {p} P each n = Decides-below_and p P (all_below p) each refl (λ _. refl) n
+decides_all_below {p} P each n = Decides-like (all_below p n) (each_below n P) (all_numbers n P) (decides_all P each (range_with_len 0 n))
 
 pub decides_any_below : {p : ℕ → Bool} (P : ℕ → Type 0) → ((k : ℕ) → Decides (p k) (P k)) → (n : ℕ) → Decides (any_below p n) ((k : ℕ) × (k < n) × P k)
-unfolding any_below
-decides_any_below {p} P each n = Decides-below_or p P (any_below p) each refl (λ _. refl) n
+decides_any_below {p} P each n = Decides-like (any_below p n) (one_below n P) (some_number n P) (decides_any P each (range_with_len 0 n))
 
-itself : (b : Bool) → Decides b (b ≡ true)
-itself b = (λ e. e, λ e. e)
+turn : (a b c : Bool) → (a || (b || c)) ≡ (b || (a || c))
+turn true true c = refl
+turn true false c = refl
+turn false b c = refl
 
-module _ (p : ℕ → Bool) where
-  tests : (n : ℕ) → Decides (all_below p n) ((k : ℕ) → k < n → p k ≡ true)
-  tests n = decides_all_below (λ k. p k ≡ true) (λ k. itself (p k)) n
+one_further : (p : ℕ → Bool) (xs : List ℕ) (x : ℕ) → list_any p (xs ++ x ∷ []) ≡ (p x || list_any p xs)
+one_further p [] x = refl
+one_further p (y ∷ ys) x = ap (λ b. p y || b) (one_further p ys x) ∙ turn (p y) (p x) (list_any p ys)
 
-  some_tests : (n : ℕ) → Decides (any_below p n) ((k : ℕ) × (k < n) × (p k ≡ true))
-  some_tests n = decides_any_below (λ k. p k ≡ true) (λ k. itself (p k)) n
-
-  none_yet : (b : Bool) → (b ≡ true → ⊥) → b ≡ false
-  none_yet true h = absurd (h refl)
-  none_yet false h = refl
-
-  pub all_none : all_below p 0 ≡ true
-  unfolding all_below
-  all_none = refl
-
-  pub all_more : (i : ℕ) → all_below p i ≡ true → p i ≡ true → all_below p (i + 1) ≡ true
-  unfolding all_below
-  all_more i h e = ap (all_below p) (add-one i) ∙ ap (λ b. b && all_below p i) e ∙ h
-
-  pub all_stop : (i n : ℕ) → i < n → p i ≡ false → all_below p n ≡ false
-  all_stop i n l e = none_yet (all_below p n) (λ h. both_ways (p i) e ((tests n).0 h i l))
-
-  pub any_none : any_below p 0 ≡ false
-  unfolding any_below
-  any_none = refl
-
-  pub any_more : (i : ℕ) → any_below p i ≡ false → p i ≡ false → any_below p (i + 1) ≡ false
-  unfolding any_below
-  any_more i h e = ap (any_below p) (add-one i) ∙ ap (λ b. b || any_below p i) e ∙ h
-
-  pub any_stop : (i n : ℕ) → i < n → p i ≡ true → any_below p n ≡ true
-  any_stop i n l e = (some_tests n).1 (i, l, e)
-
--- where a loop counted to n
-pub at_end : (f : ℕ → Bool) (b : Bool) (i n : ℕ) → i ≤ n → n ≤ i → f i ≡ b → b ≡ f n
-at_end f b i n a l h = let e : n ≡ i = omega arith in sym (ap f e ∙ h)
+-- the step from the numbers below i to those below i + 1
+pub any_more : (p : ℕ → Bool) (i : ℕ) → any_below p (i + 1) ≡ (p i || any_below p i)
+any_more p i =
+    ap (list_any p) (sym (map-id (range_with_len 0 (i + 1))) ∙ map-range_with_len_more (λ k. k) 0 i i (omega arith) ∙ ap (λ xs. xs ++ i ∷ []) (map-id (range_with_len 0 i)))
+    ∙ one_further p (range_with_len 0 i) i

@@ -1,7 +1,7 @@
--- Tests of every element and of some element of a list: the steps of a loop, and what they tell.
-use Rattle.std.proofs.Common.{◌≡◌, ℕ, ◌+◌, ◌<◌, ◌≤◌, Bool, true, false, ◌&&◌, ◌||◌, List, [], ◌∷◌, map, length, get_or, drop, Decides, All, Contains, sym, refl, ap, ◌∙◌, subst}
+-- What tests of every element and of some element of a list tell.
+use Rattle.std.proofs.Common.{◌≡◌, ℕ, ◌<◌, Bool, ◌&&◌, ◌||◌, List, [], ◌∷◌, map, length, get_or, Decides, All, Contains, sym, refl, ap, ◌∙◌, subst}
 use Rattle.std.specs.List.{HoldsAt}
-use Rattle.std.proofs.lemmas.List.{at_drop_more, at_drop_all, get_or_default}
+use Rattle.std.proofs.lemmas.List.{get_or_default}
 use Rattle.std.proofs.lemmas.Bool.Decides.{Decides-by_and, Decides-by_or, Decides-like}
 use Rattle.std.proofs.lemmas.List.Elements.{Contains-get_or, All-contains, All-nil, All-weaker, All-contains_itself, Contains-from_at, at_from_Contains}
 use Rattle.firsts.specs.Lists.{all, any}
@@ -12,11 +12,9 @@ found_at xs x h d = get_or_default xs h.0 d x h.1 ∙ h.2
 
 -- a test of every element tells what its parts tell
 pub decides_all : {X : Type 0} {p : X → Bool} (P : X → Type 0) → ((x : X) → Decides (p x) (P x)) → (xs : List X) → Decides (all p xs) (All P xs)
-unfolding all
 decides_all {X} {p} P each xs = Decides-by_and p P (all p) each refl (λ _ _. refl) xs
 
 pub decides_any : {X : Type 0} {p : X → Bool} (P : X → Type 0) → ((x : X) → Decides (p x) (P x)) → (xs : List X) → Decides (any p xs) ((k : ℕ) × (k < length xs) × HoldsAt P xs k)
-unfolding any
 decides_any {X} {p} P each xs = Decides-by_or p P (any p) each refl (λ _ _. refl) xs
 
 -- some element of which P holds
@@ -43,37 +41,9 @@ decides_has {X} {alike} each xs x =
 
 module _ {X : Type 0} (p : X → Bool) where
   pub all_map : {Y : Type 0} (f : Y → X) (ys : List Y) → all p (map f ys) ≡ all (λ y. p (f y)) ys
-  unfolding all
   all_map f [] = refl
   all_map f (y ∷ ys) = ap (λ b. p (f y) && b) (all_map f ys)
 
   pub any_map : {Y : Type 0} (f : Y → X) (ys : List Y) → any p (map f ys) ≡ any (λ y. p (f y)) ys
-  unfolding any
   any_map f [] = refl
   any_map f (y ∷ ys) = ap (λ b. p (f y) || b) (any_map f ys)
-
-  module _ (xs : List X) (i : ℕ) (d : X) (within : i < length xs) where
-    pub all_stop : all p (drop i xs) ≡ all p xs → p (get_or xs i d) ≡ false → false ≡ all p xs
-    unfolding all
-    all_stop inv e = sym (sym inv ∙ at_drop_more (all p) xs i d within ∙ ap (λ b. b && all p (drop (i + 1) xs)) e)
-
-    pub all_go : all p (drop i xs) ≡ all p xs → p (get_or xs i d) ≡ true → all p (drop (i + 1) xs) ≡ all p xs
-    unfolding all
-    all_go inv e = sym (at_drop_more (all p) xs i d within ∙ ap (λ b. b && all p (drop (i + 1) xs)) e) ∙ inv
-
-    pub any_stop : any p (drop i xs) ≡ any p xs → p (get_or xs i d) ≡ true → true ≡ any p xs
-    unfolding any
-    any_stop inv e = sym (sym inv ∙ at_drop_more (any p) xs i d within ∙ ap (λ b. b || any p (drop (i + 1) xs)) e)
-
-    pub any_go : any p (drop i xs) ≡ any p xs → p (get_or xs i d) ≡ false → any p (drop (i + 1) xs) ≡ any p xs
-    unfolding any
-    any_go inv e = sym (at_drop_more (any p) xs i d within ∙ ap (λ b. b || any p (drop (i + 1) xs)) e) ∙ inv
-
-  module _ (xs : List X) (i : ℕ) (past : length xs ≤ i) where
-    pub all_end : all p (drop i xs) ≡ all p xs → true ≡ all p xs
-    unfolding all
-    all_end inv = sym (at_drop_all (all p) xs i past) ∙ inv
-
-    pub any_end : any p (drop i xs) ≡ any p xs → false ≡ any p xs
-    unfolding any
-    any_end inv = sym (at_drop_all (any p) xs i past) ∙ inv

@@ -1,8 +1,9 @@
 -- None is found exactly where no place has an answer, and what is found is the first.
-use Rattle.std.proofs.Common.{◌≡◌, ℕ, zero, suc, ◌+◌, ◌<◌, ◌≤◌, Bool, true, false, cond, ◌⊎◌, Some, None, Decides, Option, sym, refl, ap, ◌∙◌, subst, inl, inr, ⊎_elim, arith, MatchOption}
+use Rattle.std.proofs.Common.{◌≡◌, ℕ, zero, suc, ◌+◌, ◌<◌, ◌≤◌, Bool, true, false, not, cond, find, ◌⊎◌, Some, None, Decides, Option, sym, refl, ap, ◌∙◌, subst, inl, inr, ⊎_elim, add-one, arith, MatchOption}
+use Rattle.std.specs.List.{range_with_len}
 use Rattle.std.proofs.lemmas.Bool.{cases_order}
 use Rattle.std.proofs.lemmas.Bool.Decides.{not_from_Decides}
-use Rattle.firsts.specs.Search.{or_else, first_from, first_below, First}
+use Rattle.firsts.specs.Search.{or_else, first_from, first_below, FoundAt, First}
 use Rattle.firsts.specs.Claims.{first_failing, Breaks, FirstBreach, paired, first_pair, PairBreaks, FirstPair}
 
 same_or_more : (k j : ℕ) → k ≤ j → (j ≡ k) ⊎ (suc k ≤ j)
@@ -91,9 +92,22 @@ breach_from p P each n (Some x) h =
       before = λ j l. (each j).0 (kept (p j) j (h.before j l));
     })
 
+find_step : (b : Bool) (i : ℕ) (r s : Option ℕ) → r ≡ s → cond (not b) (Some i) r ≡ or_else (cond b None (Some i)) s
+find_step true i r s e = e
+find_step false i r s e = refl
+
+-- the first number that fails is the first answer of the question that answers the numbers that fail
+found_failing : (p : ℕ → Bool) (n k : ℕ) → find (λ i. not (p i)) (range_with_len k n) ≡ first_from (λ i. cond (p i) None (Some i)) k n
+unfolding first_from
+found_failing p zero k = refl
+found_failing p (suc n) k =
+    find_step (p k) k (find (λ i. not (p i)) (range_with_len (k + 1) n)) (first_from (λ i. cond (p i) None (Some i)) (suc k) n)
+    (ap (λ m. find (λ i. not (p i)) (range_with_len m n)) (add-one k) ∙ found_failing p n (suc k))
+
 -- the first number of which a test fails is the first that breaks what the test tells
 pub breach_is : (p : ℕ → Bool) (P : ℕ → Type 0) (each : (i : ℕ) → Decides (p i) (P i)) (n : ℕ) → FirstBreach P n (first_failing p n)
-breach_is p P each n = breach_from p P each n (first_failing p n) (first_is (λ i. cond (p i) None (Some i)) n)
+breach_is p P each n =
+    subst (FirstBreach P n) (sym (found_failing p n 0)) (breach_from p P each n (first_below (λ i. cond (p i) None (Some i)) n) (first_is (λ i. cond (p i) None (Some i)) n))
 
 -- what a row of pairs answers
 module _ (P : ℕ → ℕ → Type 0) (m : ℕ) where
@@ -126,3 +140,19 @@ from_same f g e (suc n) k = ap (λ o. or_else o (first_from f (suc k) n)) (e k) 
 -- the same answers have the same first
 pub first_same : {X : Type 0} (f g : ℕ → Option X) → ((k : ℕ) → f k ≡ g k) → (n : ℕ) → first_below f n ≡ first_below g n
 first_same f g e n = from_same f g e n 0
+
+some_only : {X : Type 0} (f : ℕ → Option X) (n : ℕ) (x : X) → FoundAt f n x → (r : Option X) → First f n r → Some x ≡ r
+some_only f n x h None g = let s : None ≡ Some x = sym (g h.place h.within) ∙ h.answer in let z : ◌≡◌ {A = ℕ} 0 1 = cc in absurd (omega arith)
+some_only f n x h (Some y) g =
+    ⊎_elim
+    (λ e. sym h.answer ∙ ap f e ∙ g.answer)
+    (λ o. ⊎_elim
+    (λ l. let s : None ≡ Some x = sym (g.before h.place l) ∙ h.answer in let z : ◌≡◌ {A = ℕ} 0 1 = cc in absurd (omega arith))
+    (λ l. let s : None ≡ Some y = sym (h.before g.place l) ∙ g.answer in let z : ◌≡◌ {A = ℕ} 0 1 = cc in absurd (omega arith))
+    o)
+    (cases_order h.place g.place)
+
+-- whatever is the first answer is what a search finds
+pub first_only : {X : Type 0} (f : ℕ → Option X) (n : ℕ) (r : Option X) → First f n r → r ≡ first_below f n
+first_only f n None h = sym (all_none f n h)
+first_only f n (Some x) h = some_only f n x h (first_below f n) (first_is f n)

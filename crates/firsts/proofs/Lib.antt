@@ -2,7 +2,6 @@ pub mod Steps
 pub mod Below
 pub mod Elements
 pub mod Firsts
+pub mod Found
 pub mod Lowest
-pub mod Picks
-pub mod Somes
-pub mod Counts
+pub mod Seen

@@ -1,20 +1,19 @@
 -- Claims about every number, some number and the first number below a bound.
-use Rattle.std.specs.Prelude.{ℕ, zero, suc, ◌<◌, Bool, true, false, cond, ◌&&◌, ◌||◌, Some, None, Option, MatchOption}
+use Rattle.std.specs.Prelude.{◌≡◌, ℕ, ◌<◌, Bool, not, find, Some, None, Option, MatchOption}
+use Rattle.std.specs.List.{list_all, list_any, range_with_len}
 use Rattle.firsts.specs.Search.{first_below}
 
 -- p holds of every number below n
-unfoldable pub all_below : (ℕ → Bool) → ℕ → Bool
-all_below p zero = true
-all_below p (suc n) = p n && all_below p n
+abbrev pub all_below : (ℕ → Bool) → ℕ → Bool
+all_below p n = list_all p (range_with_len 0 n)
 
 -- p holds of some number below n
-unfoldable pub any_below : (ℕ → Bool) → ℕ → Bool
-any_below p zero = false
-any_below p (suc n) = p n || any_below p n
+abbrev pub any_below : (ℕ → Bool) → ℕ → Bool
+any_below p n = list_any p (range_with_len 0 n)
 
 -- the first number below n of which p does not hold
 abbrev pub first_failing : (ℕ → Bool) → ℕ → Option ℕ
-first_failing p n = first_below (λ i. cond (p i) None (Some i)) n
+first_failing p n = find (λ i. not (p i)) (range_with_len 0 n)
 
 -- i is the first number below n that does not keep P
 pub record Breaks (P : ℕ → Type 0) (n i : ℕ) : Type 0 where
@@ -45,3 +44,7 @@ pub record PairBreaks (P : ℕ → ℕ → Type 0) (n m : ℕ) (q : ℕ × ℕ) 
 -- r is the first pair that does not keep P: none where all do
 abbrev pub FirstPair : (ℕ → ℕ → Type 0) → ℕ → ℕ → Option (ℕ × ℕ) → Type 0
 FirstPair P n m r = MatchOption r ((i j : ℕ) → i < n → j < m → P i j) (PairBreaks P n m)
+
+-- what a call answers of each number below n is what p says
+abbrev pub Tells : {X : Type 0} → (ℕ → X → Type 0) → ℕ → (ℕ → X) → Type 0
+Tells {X} answers n p = (i : ℕ) (x : X) → answers i x → x ≡ p i

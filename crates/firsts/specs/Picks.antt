@@ -1,14 +1,8 @@
--- What a question gives over a list: its first answer, and all its answers.
-use Rattle.std.specs.Prelude.{List, [], ◌∷◌, ◌++◌, None, Option}
-use Rattle.std.specs.Option.{option_to_list}
+-- What a question gives over a list: its first answer.
+use Rattle.std.specs.Prelude.{List, [], ◌∷◌, None, Option}
 use Rattle.firsts.specs.Search.{or_else}
 
 -- the answer at the first element that has one
 unfoldable pub first_in : {X Y : Type 0} → (X → Option Y) → List X → Option Y
 first_in f [] = None
 first_in f (x ∷ xs) = or_else (f x) (first_in f xs)
-
--- the answers, in order
-unfoldable pub picks : {X Y : Type 0} → (X → Option Y) → List X → List Y
-picks f [] = []
-picks f (x ∷ xs) = option_to_list (f x) ++ picks f xs

@@ -1,10 +1,6 @@
-// The first place that has an answer, and whether every place keeps a claim.
+// Searches over the numbers below a bound: the first breach of a claim, and the lowest answer of a question.
 #![tactic(auto)]
 
-mod claims;
-mod lists;
-mod probes;
+mod searches;
 
-pub use claims::{Claim, every_below, first_breach, first_pair, some_below};
-pub use lists::{every_of, some_of};
-pub use probes::{Probe, first, least};
+pub use searches::{first_breach, least};

@@ -1,13 +1,13 @@
 -- The words that rows begin with.
 use Rattle.std.specs.Prelude.{ℕ, cond, List, Some, None, codes, Option}
-use Rattle.std.specs.Option.{option_map}
+use Rattle.std.specs.Option.{option_map, option_or}
 use Rattle.std.specs.Str.{bytes_eq}
 use Rattle.station.specs.declared.tests.Position.{Position}
 use Rattle.station.specs.declared.tests.Position.TheVariants.{Normal, Reverse}
 use Rattle.forms.specs.declared.heads.Head as head_type
 use Rattle.forms.specs.declared.heads.Head.TheVariants as code
 use Rattle.forms.specs.Words.{bracketed, joined}
-use Rattle.forms.specs.Things.{Spot, spot, try}
+use Rattle.forms.specs.Things.{Spot, spot, try, name_at, names_at}
 
 pub data Head : Type 0 where
   a_segment : Head
@@ -45,20 +45,24 @@ layout_head w =
     (cond (bytes_eq w (codes "SIGNAL")) (Some a_signal)
     (cond (bytes_eq w (codes "DATA")) (Some the_data) None)))))
 
+-- `Q_R(x)` or `A_R(x)`
+abbrev pub route_head : Spot → Option Head
+route_head w =
+    try (name_at w (bracketed (codes "Q_R(") 41 w.1)) a_request (option_map (λ x. an_activation x) (name_at w (bracketed (codes "A_R(") 41 w.1)))
+
+-- `U_IR(x)` or `U_a_b`
+abbrev pub lock_head : Spot → Option Head
+lock_head w =
+    try (name_at w (bracketed (codes "U_IR(") 41 w.1)) a_zone (option_map (λ p. a_release p.0 p.1) (names_at w (joined (codes "U_") w.1)))
+
 -- `P_xN` or `P_xR`
 abbrev pub point_head : Spot → Option Head
 point_head w =
-    try (bracketed (codes "P_") 78 w.1) (λ x. a_point_row (w.0, x) Normal)
-    (option_map (λ x. a_point_row (w.0, x) Reverse) (bracketed (codes "P_") 82 w.1))
+    try (name_at w (bracketed (codes "P_") 78 w.1)) (λ x. a_point_row x Normal)
+    (option_map (λ x. a_point_row x Reverse) (name_at w (bracketed (codes "P_") 82 w.1)))
 
--- `Q_R(x)`, `A_R(x)`, `U_IR(x)`, `U_a_b`, `P_xN` or `P_xR`
 abbrev pub data_head : Spot → Option Head
-data_head w =
-    try (bracketed (codes "Q_R(") 41 w.1) (λ x. a_request (w.0, x))
-    (try (bracketed (codes "A_R(") 41 w.1) (λ x. an_activation (w.0, x))
-    (try (bracketed (codes "U_IR(") 41 w.1) (λ x. a_zone (w.0, x))
-    (try (joined (codes "U_") w.1) (λ p. a_release (w.0, p.0) (w.0, p.1))
-    (point_head w))))
+data_head w = option_or (option_or (route_head w) (lock_head w)) (point_head w)
 
 abbrev pub head : Spot → Option Head
-head w = try (layout_head w.1) (λ h. h) (data_head w)
+head w = option_or (layout_head w.1) (data_head w)

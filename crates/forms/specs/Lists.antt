@@ -1,48 +1,46 @@
 -- Which things may stand in which list of pairs, in which states, and how many.
-use Rattle.std.specs.Prelude.{ℕ, Bool, true, false, cond, List, Some, None, Option}
+use Rattle.std.specs.Prelude.{ℕ, Bool, not, ◌==◌, List, [], ◌∷◌, length, find, Option}
 use Rattle.std.specs.Str.{bytes_eq}
 use Rattle.forms.specs.declared.states.State.{State}
 use Rattle.forms.specs.declared.states.State.TheVariants.{Xs, Cfn, Cfr, S, Cn, Cr, N, R, F, L, C}
 use Rattle.forms.specs.declared.lists.Listing.{Listing}
 use Rattle.forms.specs.declared.lists.Listing.TheVariants.{Settings, RequestTests, Actions, ActivationTests, PointTests, ReleaseTests}
-use Rattle.forms.specs.declared.lists.Choice.{Choice}
-use Rattle.forms.specs.declared.lists.Choice.TheVariants.{Nothing, One, Two}
 use Rattle.forms.specs.States.{state_word}
 use Rattle.forms.specs.Things.{Thing, segment, point, route, zone, subroute}
 
 -- a way sets points; a request tests routes, points and locks, and sets, drives and locks; an activation tests
 -- points and segments; a point's row tests locks; a release tests routes, subroutes and segments
-abbrev pub choice : {X : Type 0} → Listing → Thing X → Choice
-choice Settings (segment x) = Nothing
-choice Settings (point x) = Two N R
-choice Settings (route x) = Nothing
-choice Settings (zone x) = Nothing
-choice Settings (subroute x y) = Nothing
-choice RequestTests (segment x) = Nothing
-choice RequestTests (point x) = Two Cfn Cfr
-choice RequestTests (route x) = One Xs
-choice RequestTests (zone x) = One F
-choice RequestTests (subroute x y) = One F
-choice Actions (segment x) = Nothing
-choice Actions (point x) = Two Cn Cr
-choice Actions (route x) = One S
-choice Actions (zone x) = One L
-choice Actions (subroute x y) = One L
-choice ActivationTests (segment x) = One C
-choice ActivationTests (point x) = Two N R
-choice ActivationTests (route x) = Nothing
-choice ActivationTests (zone x) = Nothing
-choice ActivationTests (subroute x y) = Nothing
-choice PointTests (segment x) = Nothing
-choice PointTests (point x) = Nothing
-choice PointTests (route x) = Nothing
-choice PointTests (zone x) = One F
-choice PointTests (subroute x y) = One F
-choice ReleaseTests (segment x) = One C
-choice ReleaseTests (point x) = Nothing
-choice ReleaseTests (route x) = One Xs
-choice ReleaseTests (zone x) = Nothing
-choice ReleaseTests (subroute x y) = One F
+abbrev pub choice : {X : Type 0} → Listing → Thing X → List State
+choice Settings (segment x) = []
+choice Settings (point x) = N ∷ R ∷ []
+choice Settings (route x) = []
+choice Settings (zone x) = []
+choice Settings (subroute x y) = []
+choice RequestTests (segment x) = []
+choice RequestTests (point x) = Cfn ∷ Cfr ∷ []
+choice RequestTests (route x) = Xs ∷ []
+choice RequestTests (zone x) = F ∷ []
+choice RequestTests (subroute x y) = F ∷ []
+choice Actions (segment x) = []
+choice Actions (point x) = Cn ∷ Cr ∷ []
+choice Actions (route x) = S ∷ []
+choice Actions (zone x) = L ∷ []
+choice Actions (subroute x y) = L ∷ []
+choice ActivationTests (segment x) = C ∷ []
+choice ActivationTests (point x) = N ∷ R ∷ []
+choice ActivationTests (route x) = []
+choice ActivationTests (zone x) = []
+choice ActivationTests (subroute x y) = []
+choice PointTests (segment x) = []
+choice PointTests (point x) = []
+choice PointTests (route x) = []
+choice PointTests (zone x) = F ∷ []
+choice PointTests (subroute x y) = F ∷ []
+choice ReleaseTests (segment x) = C ∷ []
+choice ReleaseTests (point x) = []
+choice ReleaseTests (route x) = Xs ∷ []
+choice ReleaseTests (zone x) = []
+choice ReleaseTests (subroute x y) = F ∷ []
 
 -- at most 4 pairs in a way, 32 actions, 24 tests
 abbrev pub most : Listing → ℕ
@@ -53,13 +51,10 @@ most ActivationTests = 24
 most PointTests = 24
 most ReleaseTests = 24
 
-abbrev pub admits : Choice → Bool
-admits Nothing = false
-admits (One s) = true
-admits (Two s t) = true
+-- there is a state to choose
+abbrev pub admits : List State → Bool
+admits states = not (length states == 0)
 
--- the state that a word chooses
-abbrev pub picked : Choice → List ℕ → Option State
-picked Nothing w = None
-picked (One s) w = cond (bytes_eq w (state_word s)) (Some s) None
-picked (Two s t) w = cond (bytes_eq w (state_word s)) (Some s) (cond (bytes_eq w (state_word t)) (Some t) None)
+-- the first of these states that the word writes
+abbrev pub picked : List State → List ℕ → Option State
+picked states w = find (λ s. bytes_eq w (state_word s)) states

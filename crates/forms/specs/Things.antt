@@ -1,6 +1,6 @@
 -- The things that words name. N is what stands for a name: its octets, or these with the offset of its word.
 use Rattle.std.specs.Prelude.{ℕ, cond, List, Some, None, codes, Option}
-use Rattle.std.specs.Option.{option_map}
+use Rattle.std.specs.Option.{option_map, option_or}
 use Rattle.text.specs.declared.tokens.Word.{Word}
 use Rattle.forms.specs.declared.names.Name.{Name}
 use Rattle.forms.specs.declared.things.Thing as thing_type
@@ -24,6 +24,9 @@ spelled w = (w.at, w.octets.now)
 abbrev pub spot : Name → Spot
 spot n = (n.at, n.octets.now)
 
+abbrev pub spots : Name × Name → Spot × Spot
+spots p = (spot p.0, spot p.1)
+
 -- a thing of the code with its names as spots
 abbrev pub placed : thing_type.Thing → Thing Spot
 placed (code.Segment n) = segment (spot n)
@@ -34,13 +37,15 @@ placed (code.Subroute a b) = subroute (spot a) (spot b)
 
 -- the first of two answers that there is
 abbrev pub try : {A B : Type 0} → Option A → (A → B) → Option B → Option B
-try None f o = o
-try (Some x) f o = Some (f x)
+try o f p = option_or (option_map f o) p
 
 -- the name that a form finds in a word, with the word's offset
 abbrev pub name_at : Spot → Option (List ℕ) → Option Spot
-name_at w None = None
-name_at w (Some x) = Some (w.0, x)
+name_at w o = option_map (λ x. (w.0, x)) o
+
+-- the same of two names
+abbrev pub names_at : Spot → Option (List ℕ × List ℕ) → Option (Spot × Spot)
+names_at w o = option_map (λ p. ((w.0, p.0), (w.0, p.1))) o
 
 -- `T_x`
 abbrev pub segment_of : Spot → Option Spot
@@ -54,11 +59,16 @@ point_of w = name_at w (prefixed (codes "P_") w.1)
 abbrev pub joint_of : Spot → Option Spot
 joint_of w = cond (is_joint w.1) (Some w) None
 
+-- `T_x`, `P_x` or `R_x`
+abbrev pub lettered : Spot → Option (Thing Spot)
+lettered w = try (segment_of w) segment (try (point_of w) point (option_map (λ x. route x) (name_at w (prefixed (codes "R_") w.1))))
+
+-- `U_IR(x)` or `U_a_b`
+abbrev pub lock_of : Spot → Option (Thing Spot)
+lock_of w =
+    try (name_at w (bracketed (codes "U_IR(") 41 w.1)) zone
+    (option_map (λ p. subroute p.0 p.1) (names_at w (joined (codes "U_") w.1)))
+
 -- `T_x`, `P_x`, `R_x`, `U_IR(x)` or `U_a_b`
 abbrev pub thing_of : Spot → Option (Thing Spot)
-thing_of w =
-    try (segment_of w) segment
-    (try (point_of w) point
-    (try (prefixed (codes "R_") w.1) (λ x. route (w.0, x))
-    (try (bracketed (codes "U_IR(") 41 w.1) (λ x. zone (w.0, x))
-    (option_map (λ p. subroute (w.0, p.0) (w.0, p.1)) (joined (codes "U_") w.1)))))
+thing_of w = option_or (lettered w) (lock_of w)

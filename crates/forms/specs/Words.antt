@@ -1,25 +1,24 @@
 -- Which words are names, and which name a word of a given form has.
 use Rattle.std.specs.Prelude.{ℕ, ◌-◌, Bool, cond, not, ◌&&◌, List, length, take, drop, Some, None, codes, Option, ◌==◌, nat_le, nat_lt, slice_index}
 use Rattle.std.specs.Borrow.{Bor}
-use Rattle.std.specs.List.{prefix_len}
+use Rattle.std.specs.List.{list_all, prefix_len}
 use Rattle.std.specs.Str.{bytes_eq}
 use Rattle.text.specs.Octets.{plain, naming}
 
 -- 1 to 8 letters, digits or `_`
 abbrev pub is_name : List ℕ → Bool
-is_name w = nat_lt 0 (length w) && (nat_le (length w) 8 && prefix_len naming w == length w)
+is_name w = nat_lt 0 (length w) && (nat_le (length w) 8 && list_all naming w)
 
 -- 1 to 6 letters or digits, neither OUT nor END
 abbrev pub is_joint : List ℕ → Bool
 is_joint w =
     nat_lt 0 (length w)
     && (nat_le (length w) 6
-    && (prefix_len plain w == length w && (not (bytes_eq w (codes "OUT")) && not (bytes_eq w (codes "END")))))
+    && (list_all plain w && (not (bytes_eq w (codes "OUT")) && not (bytes_eq w (codes "END")))))
 
 -- what follows a front
 abbrev pub after : List ℕ → List ℕ → Option (List ℕ)
-after front w =
-    cond (nat_lt (length w) (length front)) None (cond (bytes_eq (take (length front) w) front) (Some (drop (length front) w)) None)
+after front w = cond (bytes_eq (take (length front) w) front) (Some (drop (length front) w)) None
 
 -- what comes before a last octet
 abbrev pub before : ℕ → List ℕ → Option (List ℕ)
@@ -49,9 +48,7 @@ if_joints a (Some b) = cond (is_joint a) (cond (is_joint b) (Some (a, b)) None) 
 
 -- two joints with `_`, which no joint's name has, between them
 abbrev pub two_joints : List ℕ → Option (List ℕ × List ℕ)
-two_joints x =
-    cond (nat_le (length x) (prefix_len plain x)) None
-    (if_joints (take (prefix_len plain x) x) (after (codes "_") (drop (prefix_len plain x) x)))
+two_joints x = if_joints (take (prefix_len plain x) x) (after (codes "_") (drop (prefix_len plain x) x))
 
 abbrev pub then_joints : Option (List ℕ) → Option (List ℕ × List ℕ)
 then_joints None = None

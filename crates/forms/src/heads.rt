@@ -1,11 +1,12 @@
 // The words that rows begin with.
+// `or` and not `or_else`: of a closure over a borrowed word the proof knows nothing.
 ghost use Rattle.std.specs.Prelude.{◌≡◌};
 ghost use Rattle.std.specs.Option.{option_map};
 ghost use Rattle.forms.specs.Things.{spelled};
-ghost use Rattle.forms.specs.Heads.{headed, layout_head, point_head, data_head, head};
+ghost use Rattle.forms.specs.Heads.{headed, layout_head, route_head, lock_head, point_head, data_head, head};
 
 use crate::names::Name;
-use crate::words::{bracketed, is_text, joined};
+use crate::words::{bracketed, joined};
 use station::Position;
 use text::Word;
 
@@ -25,68 +26,64 @@ pub enum Head<'a> {
     Zone(Name<'a>),
 }
 
+// A `match` of the words leaves search the 27 paths that lead to its last arm.
 fn layout_head<'a>(w: &'a [u8]) -> Option<Head<'a>>
     ensures { option_map headed result ≡ layout_head w.now }
 {
-    if is_text(w, b"SEG") {
-        return Some(Head::Segment);
+    if w == b"SEG".as_slice() {
+        Some(Head::Segment)
+    } else if w == b"JOINT".as_slice() {
+        Some(Head::Joint)
+    } else if w == b"POINT".as_slice() {
+        Some(Head::Point)
+    } else if w == b"WAY".as_slice() {
+        Some(Head::Way)
+    } else if w == b"SIGNAL".as_slice() {
+        Some(Head::Signal)
+    } else if w == b"DATA".as_slice() {
+        Some(Head::Data)
+    } else {
+        None
     }
-    if is_text(w, b"JOINT") {
-        return Some(Head::Joint);
-    }
-    if is_text(w, b"POINT") {
-        return Some(Head::Point);
-    }
-    if is_text(w, b"WAY") {
-        return Some(Head::Way);
-    }
-    if is_text(w, b"SIGNAL") {
-        return Some(Head::Signal);
-    }
-    if is_text(w, b"DATA") {
-        return Some(Head::Data);
-    }
-    None
+}
+
+// `Q_R(x)` or `A_R(x)`
+fn route_head<'a>(w: Word<'a>) -> Option<Head<'a>>
+    ensures { option_map headed result ≡ route_head (spelled w.entry) }
+{
+    bracketed(w, b"Q_R(", b')')
+        .map(Head::Request)
+        .or(bracketed(w, b"A_R(", b')').map(Head::Activation))
+}
+
+// `U_IR(x)` or `U_a_b`
+fn lock_head<'a>(w: Word<'a>) -> Option<Head<'a>>
+    ensures { option_map headed result ≡ lock_head (spelled w.entry) }
+{
+    let zone = bracketed(w, b"U_IR(", b')').map(Head::Zone);
+    let release = joined(w, b"U_").map(|(from, to)| Head::Release(from, to));
+    zone.or(release)
 }
 
 // `P_xN` or `P_xR`
 fn point_head<'a>(w: Word<'a>) -> Option<Head<'a>>
     ensures { option_map headed result ≡ point_head (spelled w.entry) }
 {
-    let at = w.at;
-    if let Some(octets) = bracketed(w.octets, b"P_", b'N') {
-        return Some(Head::PointRow(Name { octets, at }, Position::Normal));
-    }
-    let octets = bracketed(w.octets, b"P_", b'R')?;
-    Some(Head::PointRow(Name { octets, at }, Position::Reverse))
+    bracketed(w, b"P_", b'N')
+        .map(|name| Head::PointRow(name, Position::Normal))
+        .or(bracketed(w, b"P_", b'R').map(|name| Head::PointRow(name, Position::Reverse)))
 }
 
-// `Q_R(x)`, `A_R(x)`, `U_IR(x)`, `U_a_b`, `P_xN` or `P_xR`
+#[tactic(auto, using(crate::proofs::Ors::or_seen))]
 fn data_head<'a>(w: Word<'a>) -> Option<Head<'a>>
     ensures { option_map headed result ≡ data_head (spelled w.entry) }
 {
-    let at = w.at;
-    if let Some(octets) = bracketed(w.octets, b"Q_R(", b')') {
-        return Some(Head::Request(Name { octets, at }));
-    }
-    if let Some(octets) = bracketed(w.octets, b"A_R(", b')') {
-        return Some(Head::Activation(Name { octets, at }));
-    }
-    if let Some(octets) = bracketed(w.octets, b"U_IR(", b')') {
-        return Some(Head::Zone(Name { octets, at }));
-    }
-    if let Some((from, to)) = joined(w.octets, b"U_") {
-        return Some(Head::Release(Name { octets: from, at }, Name { octets: to, at }));
-    }
-    point_head(w)
+    route_head(w).or(lock_head(w)).or(point_head(w))
 }
 
 // The head that a row's first word is.
 pub fn head_of<'a>(w: Word<'a>) -> Option<Head<'a>>
     ensures { option_map headed result ≡ head (spelled w.entry) }
 {
-    if let Some(head) = layout_head(w.octets) {
-        return Some(head);
-    }
-    data_head(w)
+    layout_head(w.octets).or(data_head(w))
 }

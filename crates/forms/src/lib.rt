@@ -9,8 +9,7 @@ mod things;
 mod words;
 
 pub use heads::{Head, head_of};
-pub use lists::{Choice, Listing};
+pub use lists::Listing;
 pub use names::Name;
 pub use states::State;
 pub use things::{Thing, joint_of, point_of, segment_of, thing_of};
-pub use words::is_text;

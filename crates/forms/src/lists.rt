@@ -1,11 +1,10 @@
 // The lists of pairs that rows have, and what may stand in each.
 ghost use Rattle.std.specs.Prelude.{◌≡◌};
-ghost use Rattle.forms.specs.Lists.{choice, picked, most, admits};
+ghost use Rattle.forms.specs.Lists.{choice, most};
 ghost use Rattle.forms.specs.Things.{placed};
 
 use crate::states::State;
 use crate::things::Thing;
-use crate::words::is_text;
 
 #[derive(Clone, Copy)]
 pub enum Listing {
@@ -17,37 +16,26 @@ pub enum Listing {
     ReleaseTests,
 }
 
-// The states among which a pair may choose for a thing.
-#[derive(Clone, Copy)]
-pub enum Choice {
-    Nothing,
-    One(State),
-    Two(State, State),
-}
-
 impl Listing {
-    // What a thing can be in this list: nothing where it may not stand there.
-    pub fn choice<'a>(self, thing: Thing<'a>) -> Choice
-        ensures { result ≡ choice self (placed thing.entry) }
+    // The states that a thing can have in this list: none where it may not stand there.
+    pub fn choice(self, thing: Thing) -> &'static [State]
+        ensures { result.now ≡ choice self (placed thing.entry) }
     {
         match (self, thing) {
-            (Listing::Settings, Thing::Point(_)) => Choice::Two(State::N, State::R),
-            (Listing::RequestTests, Thing::Route(_)) => Choice::One(State::Xs),
-            (Listing::RequestTests, Thing::Point(_)) => Choice::Two(State::Cfn, State::Cfr),
-            (Listing::RequestTests, Thing::Zone(_)) => Choice::One(State::F),
-            (Listing::RequestTests, Thing::Subroute(_, _)) => Choice::One(State::F),
-            (Listing::Actions, Thing::Route(_)) => Choice::One(State::S),
-            (Listing::Actions, Thing::Point(_)) => Choice::Two(State::Cn, State::Cr),
-            (Listing::Actions, Thing::Zone(_)) => Choice::One(State::L),
-            (Listing::Actions, Thing::Subroute(_, _)) => Choice::One(State::L),
-            (Listing::ActivationTests, Thing::Point(_)) => Choice::Two(State::N, State::R),
-            (Listing::ActivationTests, Thing::Segment(_)) => Choice::One(State::C),
-            (Listing::PointTests, Thing::Zone(_)) => Choice::One(State::F),
-            (Listing::PointTests, Thing::Subroute(_, _)) => Choice::One(State::F),
-            (Listing::ReleaseTests, Thing::Route(_)) => Choice::One(State::Xs),
-            (Listing::ReleaseTests, Thing::Subroute(_, _)) => Choice::One(State::F),
-            (Listing::ReleaseTests, Thing::Segment(_)) => Choice::One(State::C),
-            _ => Choice::Nothing,
+            (Listing::Settings, Thing::Point(_)) => &[State::N, State::R],
+            (Listing::RequestTests, Thing::Route(_)) => &[State::Xs],
+            (Listing::RequestTests, Thing::Point(_)) => &[State::Cfn, State::Cfr],
+            (Listing::RequestTests, Thing::Zone(_) | Thing::Subroute(_, _)) => &[State::F],
+            (Listing::Actions, Thing::Route(_)) => &[State::S],
+            (Listing::Actions, Thing::Point(_)) => &[State::Cn, State::Cr],
+            (Listing::Actions, Thing::Zone(_) | Thing::Subroute(_, _)) => &[State::L],
+            (Listing::ActivationTests, Thing::Point(_)) => &[State::N, State::R],
+            (Listing::ActivationTests, Thing::Segment(_)) => &[State::C],
+            (Listing::PointTests, Thing::Zone(_) | Thing::Subroute(_, _)) => &[State::F],
+            (Listing::ReleaseTests, Thing::Route(_)) => &[State::Xs],
+            (Listing::ReleaseTests, Thing::Subroute(_, _)) => &[State::F],
+            (Listing::ReleaseTests, Thing::Segment(_)) => &[State::C],
+            _ => &[],
         }
     }
 
@@ -58,39 +46,10 @@ impl Listing {
         match self {
             Listing::Settings => 4,
             Listing::Actions => 32,
-            Listing::RequestTests => 24,
-            Listing::ActivationTests => 24,
-            Listing::PointTests => 24,
-            Listing::ReleaseTests => 24,
-        }
-    }
-}
-
-impl Choice {
-    // Whether there is a state to choose.
-    pub fn admits(self) -> bool
-        ensures { result ≡ admits self }
-    {
-        match self {
-            Choice::Nothing => false,
-            Choice::One(_) => true,
-            Choice::Two(_, _) => true,
-        }
-    }
-
-    // The state that the word chooses.
-    pub fn picked(self, w: &[u8]) -> Option<State>
-        ensures { result ≡ picked self w.now }
-    {
-        match self {
-            Choice::Nothing => None,
-            Choice::One(s) => if is_text(w, s.text()) { Some(s) } else { None },
-            Choice::Two(s, t) => {
-                if is_text(w, s.text()) {
-                    return Some(s);
-                }
-                if is_text(w, t.text()) { Some(t) } else { None }
-            }
+            Listing::RequestTests
+            | Listing::ActivationTests
+            | Listing::PointTests
+            | Listing::ReleaseTests => 24,
         }
     }
 }

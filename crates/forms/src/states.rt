@@ -1,6 +1,7 @@
 // The states that pairs give to things.
 ghost use Rattle.std.specs.Prelude.{◌≡◌};
 ghost use Rattle.forms.specs.States.{state_word};
+ghost use Rattle.forms.specs.Lists.{picked};
 
 #[derive(Clone, Copy, PartialEq)]
 pub enum State {
@@ -18,6 +19,13 @@ pub enum State {
 }
 
 impl State {
+    // The one of these states that the word writes.
+    pub fn among(states: &[State], w: &[u8]) -> Option<State>
+        ensures { result ≡ picked states.now w.now }
+    {
+        states.iter().copied().find(|s| w == s.text())
+    }
+
     // The word that writes it.
     pub fn text(self) -> &'static [u8]
         ensures { result.now ≡ state_word self }

@@ -1,9 +1,8 @@
 -- Lists whose elements are changed by a second list: their length, their elements, and one element written.
-use Rattle.std.proofs.Common.{◌≡◌, ℕ, zero, suc, ◌<◌, Bool, true, false, ◌&&◌, eqb, List, [], ◌∷◌, length, get_or, set, sym, refl, ap, ◌∙◌, le_of_suc-le-suc, not-suc-le-zero}
+use Rattle.std.proofs.Common.{◌≡◌, ℕ, zero, suc, ◌<◌, Bool, true, false, ◌&&◌, eqb, List, [], ◌∷◌, length, get_or, set, sym, refl, ap, ◌∙◌, le_of_suc-le-suc, not-suc-le-zero, None, Some}
 use Rattle.std.proofs.lemmas.List.{set-get_or}
 use Rattle.track.specs.Meaning.{Meaning, a_point, no_state, state_at, train_at}
-use Rattle.track.specs.declared.states.Train.{Train}
-use Rattle.track.specs.declared.states.Train.TheVariants.{Absent, Present}
+use Rattle.track.specs.Trains.{Train}
 use Rattle.holding.specs.Seen.{count_at, each_by, hold, marked, off_at, seen}
 
 module _ {X Y : Type 0} (f : X → Y → X) where
@@ -43,8 +42,8 @@ and_false false = refl
 
 -- a train that is not kept derailed is seen as it is
 pub unmarked : (t : Train) → marked t false ≡ t
-unmarked Absent = refl
-unmarked (Present p) = refl
+unmarked None = refl
+unmarked (Some p) = refl
 
 -- a point is seen as its count lets it be
 pub state_seen : (m : Meaning) (hs : List ℕ) (offs : List Bool) (i : ℕ) → state_at (seen m hs offs) i ≡ hold (state_at m i) (count_at hs i)
@@ -52,4 +51,4 @@ state_seen m hs offs i =
     get_or_each hold no_state 0 (λ h. ap (a_point no_state.target) (and_false (eqb h 0))) (λ p. refl) m.points hs i
 
 pub train_seen : (m : Meaning) (hs : List ℕ) (offs : List Bool) (i : ℕ) → train_at (seen m hs offs) i ≡ marked (train_at m i) (off_at offs i)
-train_seen m hs offs i = get_or_each marked Absent false (λ off. refl) unmarked m.trains offs i
+train_seen m hs offs i = get_or_each marked None false (λ off. refl) unmarked m.trains offs i

@@ -1,5 +1,5 @@
 -- Calls on points and signals, seen through a layer that holds points in motion.
-use Rattle.std.proofs.Common.{◌≡◌, ℕ, ◌-◌, ◌<◌, ◌≤◌, Bool, true, false, cond, ◌&&◌, eqb, ltb, List, length, set, Some, None, Ok, Err, Result, sym, refl, ap, ◌∙◌, subst, arith}
+use Rattle.std.proofs.Common.{◌≡◌, ℕ, ◌-◌, ◌<◌, ◌≤◌, Bool, true, false, cond, ◌&&◌, eqb, ltb, List, length, set, Some, None, Ok, Err, MatchResult, Result, sym, refl, ap, ◌∙◌, subst, arith}
 use Rattle.std.proofs.lemmas.List.{get_or-set_same, set-get_or}
 use Rattle.std.proofs.lemmas.Bool.{ltb-true}
 use Rattle.station.specs.Alike.{same_position}
@@ -12,16 +12,16 @@ use Rattle.track.specs.declared.refusals.Refusal.{Refusal}
 use Rattle.track.specs.declared.refusals.Refusal.TheVariants.{Unknown, AtRest, Mismatch}
 use Rattle.track.specs.declared.states.Aspect.{Aspect}
 use Rattle.track.specs.declared.states.PointState.{PointState}
-use Rattle.holding.specs.Seen.{count_at, hold, one_fewer, seen}
-use Rattle.holding.proofs.Answered.{after_map, before, changed, denied, granted, known, passed, unchanged}
+use Rattle.holding.specs.Seen.{count_at, hold, one_fewer, seen, started}
+use Rattle.holding.proofs.Answered.{after_map, before, denied, granted, known, passed, unchanged}
 use Rattle.holding.proofs.Eaches.{length_each, set_each, set_first, set_second, state_seen}
 
 -- on any track
-pub refused_drive : (s : Station) (m : Meaning) (i : ℕ) (to : Position) (e : Refusal) → point_refusal s m i ≡ Some e → Drives s m i to (Err e) m
+refused_drive : (s : Station) (m : Meaning) (i : ℕ) (to : Position) (e : Refusal) → point_refusal s m i ≡ Some e → Drives s m i to (Err e) m
 refused_drive s m i to e R =
     record { answers = sym (ap (λ x. answer x tt) R); leaves = unchanged (point_refusal s m i) e R m (driven m i to (state_at m i).settled) }
 
-pub refused_settle : (s : Station) (m : Meaning) (i : ℕ) (e : Refusal) → point_refusal s m i ≡ Some e → Settles s m i (Err e) m
+refused_settle : (s : Station) (m : Meaning) (i : ℕ) (e : Refusal) → point_refusal s m i ≡ Some e → Settles s m i (Err e) m
 refused_settle s m i e R =
     let W : settle_refusal s m i ≡ Some e = before (fits s m) (ltb i (length m.points)) (cond (state_at m i).settled (Some AtRest) None) e R in
     record { answers = sym (ap (λ x. answer x false) W); leaves = unchanged (settle_refusal s m i) e W m m }
@@ -33,7 +33,7 @@ module _ (s : Station) (m : Meaning) (hs : List ℕ) (offs : List Bool) where
   pub fits_same : fits s M ≡ fits s m
   fits_same = rw length_each refl
 
-  pub refusal_same : (i : ℕ) → point_refusal s M i ≡ point_refusal s m i
+  refusal_same : (i : ℕ) → point_refusal s M i ≡ point_refusal s m i
   refusal_same i = rw length_each refl
 
   pub shows_seen : {i : ℕ} {a : Aspect} {r : Result Unit Refusal} {n : Meaning} → Shows s m i a r n → Shows s M i a r (seen n hs offs)
@@ -42,15 +42,26 @@ module _ (s : Station) (m : Meaning) (hs : List ℕ) (offs : List Bool) where
     leaves = rw length_each (ap (λ x. seen x hs offs) d.leaves ∙ after_map (λ x. seen x hs offs) (signal_refusal s m i) m (with_aspect m i a));
   }
 
-  pub point_denied : {A : Type 0} (i : ℕ) (e : Refusal) (x : A) → Err e ≡ point_answer s m i → Err e ≡ answer (point_refusal s M i) x
+  point_denied : {A : Type 0} (i : ℕ) (e : Refusal) (x : A) → Err e ≡ point_answer s m i → Err e ≡ answer (point_refusal s M i) x
   point_denied i e x h = sym (ap (λ R. answer R x) (refusal_same i ∙ denied (point_refusal s m i) e (state_at m i) h))
 
-  pub point_seen : (i : ℕ) (p : PointState) → Ok p ≡ point_answer s m i → Ok (hold p (count_at hs i)) ≡ point_answer s M i
+  point_seen : (i : ℕ) (p : PointState) → Ok p ≡ point_answer s m i → Ok (hold p (count_at hs i)) ≡ point_answer s M i
   point_seen i p e =
       let g = granted (point_refusal s m i) p (state_at m i) e in
       ap (λ q. Ok (hold q (count_at hs i))) g.1
       ∙ ap Ok (sym (state_seen m hs offs i))
       ∙ sym (ap (λ R. answer R (state_at M i)) (refusal_same i ∙ g.0))
+
+  -- what is answered to the question for a point
+  pub point_answered : (i : ℕ) (r q : Result PointState Refusal) → r ≡ point_answer s m i → MatchResult r (λ p. q ≡ Ok (hold p (count_at hs i))) (λ e. q ≡ Err e) → q ≡ point_answer s M i
+  point_answered i (Ok p) q e is = is ∙ point_seen i p e
+  point_answered i (Err r) q e is = is ∙ point_denied i r (state_at M i) e
+
+  pub drive_denied : (i : ℕ) (to : Position) (e : Refusal) → Err e ≡ point_answer s m i → Drives s M i to (Err e) M
+  drive_denied i to e told = refused_drive s M i to e (refusal_same i ∙ denied (point_refusal s m i) e (state_at m i) told)
+
+  pub settle_denied : (i : ℕ) (e : Refusal) → Err e ≡ point_answer s m i → Settles s M i (Err e) M
+  settle_denied i e told = refused_settle s M i e (refusal_same i ∙ denied (point_refusal s m i) e (state_at m i) told)
 
   module _ (i : ℕ) where
     target_same : (state_at M i).target ≡ (state_at m i).target
@@ -64,8 +75,8 @@ module _ (s : Station) (m : Meaning) (hs : List ℕ) (offs : List Bool) where
           ∙ sym (ap (λ q. cond q M (with_point M i (a_point to (state_at (seen n hs offs) i).settled))) (ap (λ x. same_position x to) target_same ∙ e))
 
       -- to the other side: the count starts anew
-      started : n ≡ driven m i to (state_at n i).settled → same_position (state_at m i).target to ≡ false → seen n (set hs i k) offs ≡ driven M i to (state_at (seen n (set hs i k) offs) i).settled
-      started d e =
+      anew : n ≡ driven m i to (state_at n i).settled → same_position (state_at m i).target to ≡ false → seen n (set hs i k) offs ≡ driven M i to (state_at (seen n (set hs i k) offs) i).settled
+      anew d e =
           let c = (state_at n i).settled in
           let N = seen n (set hs i k) offs in
           let settled : (state_at N i).settled ≡ (eqb k 0 && c) = ap (λ p. p.settled) (state_seen n (set hs i k) offs i) ∙ ap (λ h. eqb h 0 && c) (get_or-set_same hs i k 0 within) in
@@ -80,7 +91,7 @@ module _ (s : Station) (m : Meaning) (hs : List ℕ) (offs : List Bool) where
           let left : n ≡ driven m i to (state_at n i).settled = d.leaves ∙ ap (λ x. after x m (driven m i to (state_at n i).settled)) R in
           let N = seen n (cond same hs (set hs i k)) offs in
           let up : N ≡ driven M i to (state_at N i).settled =
-          elim same as (λ q. same_position (state_at m i).target to ≡ q → seen n (cond q hs (set hs i k)) offs ≡ driven M i to (state_at (seen n (cond q hs (set hs i k)) offs) i).settled) [ true ↦ kept left | false ↦ started left ] e in
+          elim same as (λ q. same_position (state_at m i).target to ≡ q → seen n (cond q hs (set hs i k)) offs ≡ driven M i to (state_at (seen n (cond q hs (set hs i k)) offs) i).settled) [ true ↦ kept left | false ↦ anew left ] e in
           record {
             answers = d.answers ∙ ap (λ x. answer x tt) (sym (refusal_same i));
             leaves = up ∙ sym (ap (λ x. after x M (driven M i to (state_at N i).settled)) (refusal_same i ∙ R));
@@ -88,24 +99,20 @@ module _ (s : Station) (m : Meaning) (hs : List ℕ) (offs : List Bool) where
 
     -- the point is one of the track's
     module _ (p : PointState) (ok : Ok p ≡ point_answer s m i) (few : length m.points ≤ 32) (long : length hs ≡ 32) where
-      pub free : point_refusal s m i ≡ None
+      free : point_refusal s m i ≡ None
       free = (granted (point_refusal s m i) p (state_at m i) ok).0
 
-      pub here : p ≡ state_at m i
+      here : p ≡ state_at m i
       here = (granted (point_refusal s m i) p (state_at m i) ok).1
 
       pub within : i < length hs
       within = let l = ltb-true i (length m.points) (known (fits s m) (ltb i (length m.points)) free).1 in omega arith
 
       -- a drive, where the counts and marks are then hs' and offs'
-      pub drives_seen : (k : ℕ) (to : Position) (same : Bool) → same ≡ same_position p.target to → (hs' : List ℕ) (offs' : List Bool) → hs' ≡ cond same hs (set hs i k) → offs' ≡ offs → {r : Result Unit Refusal} {n : Meaning} → Drives s m i to r n → Drives s M i to r (seen n hs' offs')
-      drives_seen k to same e hs' offs' eh eo {r} {n} d =
-          let up = granted_drive k to n within same (ap (λ q. same_position q.target to) (sym here) ∙ sym e) free d in
-          subst (λ x. Drives s M i to r x) (sym (ap (λ x. seen n x offs') eh ∙ ap (seen n (cond same hs (set hs i k))) eo)) up
-
-      pub counts_driven : (k : ℕ) (to : Position) (same : Bool) → same ≡ same_position p.target to → cond same hs (set hs i k) ≡ after (point_refusal s m i) hs (cond (same_position (state_at m i).target to) hs (set hs i k))
-      counts_driven k to same e =
-          ap (λ b. cond b hs (set hs i k)) (e ∙ ap (λ q. same_position q.target to) here) ∙ changed (point_refusal s m i) free hs (cond (same_position (state_at m i).target to) hs (set hs i k))
+      pub drives_seen : (k : ℕ) (to : Position) (hs' : List ℕ) (offs' : List Bool) → hs' ≡ started hs i k p.target to → offs' ≡ offs → {r : Result Unit Refusal} {n : Meaning} → Drives s m i to r n → Drives s M i to r (seen n hs' offs')
+      drives_seen k to hs' offs' eh eo {r} {n} d =
+          let up = granted_drive k to n within (same_position p.target to) (ap (λ q. same_position q.target to) (sym here)) free d in
+          subst (λ x. Drives s M i to r x) (sym (ap (λ x. seen n x offs') eh ∙ ap (seen n (started hs i k p.target to)) eo)) up
 
     -- a settling that goes down
     module _ (none : count_at hs i ≡ 0) (within : i < length hs) where
@@ -175,8 +182,3 @@ module _ (s : Station) (m : Meaning) (hs : List ℕ) (offs : List Bool) where
           let told : (eqb k 0 && p.settled) ≡ q.settled = sym (ap (λ x. x.settled) eq ∙ ap (λ h. eqb h 0 && p.settled) counted) in
           subst (λ b. Settles s M i (Ok b) (seen m hs' offs')) told
           (subst (λ x. Settles s M i (Ok (eqb k 0 && p.settled)) x) (sym (ap (λ x. seen m x offs') written ∙ ap (seen m (set hs i k)) eo)) up)
-
-      pub answers_held : (q : PointState) → q ≡ hold p (count_at hs' i) → Ok q.settled ≡ answer (point_refusal s m i) (hold (state_at m i) k).settled
-      answers_held q eq =
-          ap (λ x. Ok x.settled) (eq ∙ ap (hold p) counted ∙ ap (λ x. hold x k) (here p ok few long))
-          ∙ sym (ap (λ R. answer R (hold (state_at m i) k).settled) (free p ok few long))

@@ -5,10 +5,7 @@ use Rattle.station.specs.Numbers.{point_at}
 use Rattle.station.specs.Station.{Station}
 use Rattle.track.specs.Meaning.{Meaning}
 use Rattle.track.specs.Ways.{way_out}
-use Rattle.track.specs.declared.states.Front.{Front}
-use Rattle.track.specs.declared.states.Front.TheVariants.{In, Outside}
-use Rattle.track.specs.declared.states.Train.{Train}
-use Rattle.track.specs.declared.states.Train.TheVariants.{Absent, Present}
+use Rattle.track.specs.Trains.{Train}
 use Rattle.holding.specs.Seen.{holds_back, seen}
 use Rattle.holding.specs.declared.courses.Course.{Course}
 use Rattle.holding.specs.declared.courses.Course.TheVariants.{Down, Off, Derails}
@@ -22,21 +19,21 @@ abbrev pub some_held : Station → List ℕ → ℕ → Bool
 some_held s hs t = any_below (held_here s hs t) (length s.points)
 
 -- a train that is wholly in a segment with a held point derails
-abbrev pub over : Station → List ℕ → Front → Option ℕ → Course
-over s hs (In t) None = cond (some_held s hs t) Derails Down
-over s hs (In t) (Some u) = Down
-over s hs Outside None = Down
-over s hs Outside (Some u) = Down
+abbrev pub over : Station → List ℕ → Option ℕ → Option ℕ → Course
+over s hs (Some t) None = cond (some_held s hs t) Derails Down
+over s hs (Some t) (Some u) = Down
+over s hs None None = Down
+over s hs None (Some u) = Down
 
 -- front and turn
 abbrev pub course : Station → List ℕ → Bool → Train → Course
-course s hs off Absent = Down
-course s hs off (Present p) = cond off Off (cond p.derailed Down (over s hs p.front p.rear))
+course s hs off None = Down
+course s hs off (Some p) = cond off Off (cond p.derailed Down (over s hs p.front p.rear))
 
 -- rear
 abbrev pub rear_course : Bool → Train → Course
-rear_course off Absent = Down
-rear_course off (Present p) = cond off Off Down
+rear_course off None = Down
+rear_course off (Some p) = cond off Off Down
 
 -- over a held point no way fits; elsewhere the way that fits is that of the track below
 abbrev pub HeldWays : Station → Type 0

@@ -1,13 +1,11 @@
 -- A track seen through a layer that holds points in motion and keeps trains derailed.
-use Rattle.std.specs.Prelude.{ℕ, ◌-◌, Bool, false, cond, not, ◌&&◌, ◌||◌, List, [], ◌∷◌, ◌==◌, slice_index, slice_index_or, slice_set}
+use Rattle.std.specs.Prelude.{ℕ, ◌-◌, Bool, false, cond, not, ◌&&◌, ◌||◌, List, [], ◌∷◌, ◌==◌, slice_index, slice_index_or, slice_set, None, Some}
 use Rattle.station.specs.Alike.{same_position}
 use Rattle.station.specs.declared.tests.Position.{Position}
 use Rattle.holding.specs.declared.kept.Holding.{Holding}
 use Rattle.track.specs.Meaning.{Meaning, a_point}
-use Rattle.track.specs.Trains.{present}
+use Rattle.track.specs.Trains.{present, Train}
 use Rattle.track.specs.declared.states.PointState.{PointState}
-use Rattle.track.specs.declared.states.Train.{Train}
-use Rattle.track.specs.declared.states.Train.TheVariants.{Absent, Present}
 
 -- each element changed by what stands at its place in a second list, and left as it is where that list has ended
 unfoldable pub each_by : {X Y : Type 0} → (X → Y → X) → List X → List Y → List X
@@ -21,8 +19,8 @@ hold p h = a_point p.target (h == 0 && p.settled)
 
 -- a train is derailed where it is kept so
 abbrev pub marked : Train → Bool → Train
-marked Absent off = Absent
-marked (Present p) off = present p.front p.joint p.rear (off || p.derailed)
+marked None off = None
+marked (Some p) off = present p.front p.joint p.rear (off || p.derailed)
 
 abbrev pub seen : Meaning → List ℕ → List Bool → Meaning
 seen m hs offs =

@@ -1,12 +1,12 @@
 // What becomes of a call that moves a train.
 ghost use Rattle.std.specs.Prelude.{◌≡◌};
-ghost use Rattle.holding.specs.Courses.{course, over, rear_course};
+ghost use Rattle.holding.specs.Courses.{course, rear_course};
 ghost use Rattle.holding.specs.Seen.{off_at};
 ghost use Rattle.station.specs.Station.{station};
 
 use crate::kept::Holding;
 use station::Tables;
-use track::{Front, Place, Train};
+use track::Train;
 
 #[derive(Clone, Copy)]
 pub enum Course {
@@ -19,47 +19,29 @@ pub enum Course {
 }
 
 impl Holding {
-    fn over(&self, tables: &Tables, p: Place) -> Course
-        ensures { result ≡ over (station tables.now) self.now.counts p.front p.rear }
-    {
-        match (p.front, p.rear) {
-            (Front::In(t), None) => {
-                if self.some_held(tables, t) {
-                    Course::Derails
-                } else {
-                    Course::Down
-                }
-            }
-            _ => Course::Down,
-        }
-    }
-
     // What becomes of taking the train on, or of turning it.
     pub fn course(&self, tables: &Tables, n: usize, t: Train) -> Course
         ensures { result ≡ course (station tables.now) self.now.counts (off_at self.now.derailed n) t }
     {
-        let Train::Present(p) = t else {
+        let Some(p) = t else {
             return Course::Down;
         };
         if self.is_off(n) {
             return Course::Off;
         }
-        if p.derailed {
-            return Course::Down;
+        match (p.derailed, p.front, p.rear) {
+            (false, Some(segment), None) if self.some_held(tables, segment) => Course::Derails,
+            _ => Course::Down,
         }
-        self.over(tables, p)
     }
 
     // What becomes of giving up the train's rear.
     pub fn rear_course(&self, n: usize, t: Train) -> Course
         ensures { result ≡ rear_course (off_at self.now.derailed n) t }
     {
-        let Train::Present(_) = t else {
-            return Course::Down;
-        };
-        if self.is_off(n) {
-            return Course::Off;
+        match t {
+            Some(_) if self.is_off(n) => Course::Off,
+            _ => Course::Down,
         }
-        Course::Down
     }
 }

@@ -2,7 +2,7 @@
 ghost use Rattle.std.specs.Prelude.{◌≡◌, false, replicate};
 ghost use Rattle.holding.specs.Seen.{count_at, hold, holds_back, marked, off_at};
 
-use crate::kept::{Holding, MOST_POINTS, TRAINS};
+use crate::kept::Holding;
 use track::{Place, PointState, Train};
 
 impl Holding {
@@ -11,16 +11,16 @@ impl Holding {
         ensures { (result.counts ≡ replicate 32 0) × (result.derailed ≡ replicate 16 false) }
     {
         Holding {
-            counts: [0; MOST_POINTS],
-            derailed: [false; TRAINS],
+            counts: [0; 32],
+            derailed: [false; 16],
         }
     }
 
-    // How many settlings of the point are held back.
+    // How many settlings of the point are held back. This and `is_off` are the library's `get` with a default of their own.
     pub(crate) fn count(&self, n: usize) -> u8
         ensures { result ≡ count_at self.now.counts n }
     {
-        if n < MOST_POINTS { self.counts[n] } else { 0 }
+        self.counts.get(n).copied().unwrap_or(0)
     }
 
     // Whether settlings of the point are held back.
@@ -34,7 +34,7 @@ impl Holding {
     pub(crate) fn is_off(&self, n: usize) -> bool
         ensures { result ≡ off_at self.now.derailed n }
     {
-        if n < TRAINS { self.derailed[n] } else { false }
+        self.derailed.get(n).copied().unwrap_or(false)
     }
 
     // The point as it is seen: in motion while settlings are held back.
@@ -42,8 +42,8 @@ impl Holding {
         ensures { result ≡ hold p (count_at self.now.counts n) }
     {
         PointState {
-            target: p.target,
             settled: !self.holds_back(n) && p.settled,
+            ..p
         }
     }
 
@@ -51,14 +51,9 @@ impl Holding {
     pub fn seen_train(&self, n: usize, t: Train) -> Train
         ensures { result ≡ marked t (off_at self.now.derailed n) }
     {
-        match t {
-            Train::Absent => Train::Absent,
-            Train::Present(p) => Train::Present(Place {
-                front: p.front,
-                joint: p.joint,
-                rear: p.rear,
-                derailed: self.is_off(n) || p.derailed,
-            }),
-        }
+        t.map(|p| Place {
+            derailed: self.is_off(n) || p.derailed,
+            ..p
+        })
     }
 }

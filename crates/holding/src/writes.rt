@@ -1,29 +1,27 @@
 // What the calls write into a holding.
-ghost use Rattle.std.specs.Prelude.{◌≡◌, true, false, slice_set};
+ghost use Rattle.std.specs.Prelude.{◌≡◌, slice_set};
 ghost use Rattle.holding.specs.Seen.{one_fewer, started};
 
-use crate::kept::{Holding, MOST_POINTS, TRAINS};
-use alike::Same;
+use crate::kept::Holding;
 use station::Position;
 
-impl Holding {
-    // Holds back so many settlings of the point.
-    fn start(&mut self, n: usize, count: u8)
-        ensures counts { self.new.counts ≡ slice_set self.old.counts n count }
-        ensures same { self.new.derailed ≡ self.old.derailed }
-    {
-        if n < MOST_POINTS {
-            self.counts[n] = count;
-        }
+// Writes one element, where the list has it, as `states` does for slots: a crate for both would be longer. By index, since `get_mut` does not promise what the list holds after a write.
+fn put<T: Copy>(xs: &mut [T], n: usize, x: T)
+    ensures { xs.new ≡ slice_set xs.old n x }
+{
+    if n < xs.len() {
+        xs[n] = x;
     }
+}
 
+impl Holding {
     // Holds back so many settlings of a point that is driven to the other side.
     pub fn driven(&mut self, n: usize, was: Position, to: Position, count: u8)
         ensures counts { self.new.counts ≡ started self.old.counts n count was to }
         ensures same { self.new.derailed ≡ self.old.derailed }
     {
-        if !was.same(&to) {
-            self.start(n, count);
+        if was != to {
+            put(&mut self.counts, n, count);
         }
     }
 
@@ -34,7 +32,7 @@ impl Holding {
     {
         let count = self.count(n);
         if count != 0 {
-            self.start(n, count - 1);
+            put(&mut self.counts, n, count - 1);
         }
     }
 
@@ -43,8 +41,6 @@ impl Holding {
         ensures derailed { self.new.derailed ≡ slice_set self.old.derailed n off }
         ensures same { self.new.counts ≡ self.old.counts }
     {
-        if n < TRAINS {
-            self.derailed[n] = off;
-        }
+        put(&mut self.derailed, n, off);
     }
 }

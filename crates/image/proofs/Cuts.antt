@@ -1,18 +1,16 @@
 -- The parts of an image: what stands before them, and where each begins.
-use Rattle.std.proofs.Common.{◌≡◌, ℕ, ◌+◌, ◌-◌, ◌/◌, ◌%◌, true, eqb, ltb, List, [], ◌∷◌, ◌++◌, length, get_or, take, drop, Some, None, Option, sym, refl, ap, ◌∙◌, arith}
-use Rattle.std.specs.Simd.{first_chunks}
-use Rattle.std.proofs.lemmas.List.{drop-drop, length-drop, take_rest}
+use Rattle.std.proofs.Common.{◌≡◌, ℕ, ◌+◌, ◌/◌, ◌%◌, true, false, eqb, ltb, List, [], ◌∷◌, ◌++◌, length, get_or, drop, Some, None, Option, refl, ap, ◌∙◌, arith}
 use Rattle.std.proofs.lemmas.Bool.{and_parts, and_from, eq-eqb, eqb-true}
+use Rattle.std.specs.Option.{option_map_or}
+use Rattle.std.proofs.lemmas.Option.{option_and_then_some}
 use Rattle.octets.proofs.Records.{guarded}
 use Rattle.octets.specs.Frames.{framed, head, rest}
 use Rattle.image.specs.Image.{then}
-use Rattle.image.specs.Tracks.{fours, signal_part, train_part}
-use Rattle.image.proofs.Fours.{fours_is}
+use Rattle.image.specs.Tracks.{framing}
 
 -- what comes of a value comes of one that is there
 pub given : {A B : Type 0} (o : Option A) (f : A → Option B) (y : B) → then o f ≡ Some y → (x : A) × (o ≡ Some x) × (f x ≡ Some y)
-given None f y e = absurd (grind arith)
-given (Some x) f y e = (x, refl, e)
+given o f y e = option_and_then_some f o y e (λ x is by. (x, is, by))
 
 pub rest_is : (p s n : ℕ) → rest p s ≡ Some n → n ≡ p + s + 64
 rest_is p s n e = let g = (guarded (ltb (p + s + 64) 65536) (Some (p + s + 64)) n e).1 in grind arith
@@ -44,17 +42,10 @@ is_framed n ys e =
     and_from (eqb (length (head n ++ ys)) (3 + n)) _ (eq-eqb _ _ (omega (arith, e)))
     (and_from _ _ refl (and_from _ _ (eq-eqb (n / 256) (n / 256) refl) (eq-eqb (n % 256) (n % 256) refl)))
 
-pub signal_cut : (p s : ℕ) (xs : List ℕ) → take ((3 + p + s) - (3 + p)) (drop (3 + p) xs) ≡ signal_part p s xs
-signal_cut p s xs =
-    let n : (3 + p + s) - (3 + p) ≡ s = omega arith in
-    ap (λ m. take m (drop (3 + p) xs)) n ∙ ap (take s) (sym (drop-drop p 3 xs))
-
--- the octets of the trains, as a slice that goes to the end
-pub train_cut : (p s : ℕ) (xs : List ℕ) → length xs ≡ 3 + p + s + 64 → first_chunks 4 (length (take (length xs - (3 + p + s)) (drop (3 + p + s) xs)) / 4) (take (length xs - (3 + p + s)) (drop (3 + p + s) xs)) ≡ train_part p s xs
-train_cut p s xs long =
-    let same = take_rest xs (3 + p + s) in
-    let count : length (drop (3 + p + s) xs) ≡ 64 = length-drop (3 + p + s) xs ∙ omega arith in
-    let parted : drop (3 + p + s) xs ≡ drop s (drop p (drop 3 xs)) = sym (ap (drop s) (drop-drop p 3 xs) ∙ drop-drop s (3 + p) xs) in
-    ap (λ l. first_chunks 4 (length l / 4) l) same
-    ∙ fours_is (length (drop (3 + p + s) xs) / 4) 16 (drop (3 + p + s) xs) (ap (λ m. m / 4) count)
-    ∙ ap (fours 16) parted
+-- octets of which two can say how many follow, and that begin so
+pub framing_is : (p s : ℕ) (xs : List ℕ) → framing p s xs ≡ true → (n : ℕ) × (rest p s ≡ Some n) × (framed n xs ≡ true)
+framing_is p s xs e = said (rest p s) e
+  where
+    said : (o : Option ℕ) → option_map_or (λ n. framed n xs) o false ≡ true → (n : ℕ) × (o ≡ Some n) × (framed n xs ≡ true)
+    said None e = absurd (grind arith)
+    said (Some n) e = (n, refl, e)

@@ -3,13 +3,13 @@ use Rattle.std.proofs.Common.{◌≡◌, ℕ, zero, suc, ◌*◌, List, [], ◌�
 use Rattle.std.specs.Simd.{first_chunks}
 use Rattle.std.proofs.lemmas.List.{drop_at, length-append, length-drop, nil_from_length, take-append-drop, take_at}
 use Rattle.std.proofs.lemmas.List.Elements.{All-head, All-tail}
-use Rattle.track.specs.declared.states.Train.{Train}
 use Rattle.octets.specs.Each.{each}
 use Rattle.octets.specs.Writes.{train_octets}
 use Rattle.octets.proofs.Inverses.{each_has}
 use Rattle.octets.proofs.Records.{train_long}
 use Rattle.image.specs.Image.{flat}
 use Rattle.image.specs.Tracks.{fours}
+use Rattle.track.specs.Trains.{Train}
 
 pub fours_is : (n m : ℕ) (xs : List ℕ) → n ≡ m → first_chunks 4 n xs ≡ fours m xs
 unfolding fours
@@ -21,7 +21,7 @@ length_fours zero xs = refl
 length_fours (suc n) xs = ap suc (length_fours n (drop 4 xs))
 
 pub flat_fours : (n : ℕ) (xs : List ℕ) → length xs ≡ 4 * n → flat (fours n xs) ≡ xs
-unfolding fours flat
+unfolding fours
 flat_fours zero xs e = sym (nil_from_length xs (omega arith))
 flat_fours (suc n) xs e =
     let left : length (drop 4 xs) ≡ 4 * n = length-drop 4 xs ∙ omega arith in
@@ -31,12 +31,11 @@ abbrev pub Four : List ℕ → Type 0
 Four q = length q ≡ 4
 
 pub length_flat : (qs : List (List ℕ)) → All Four qs → length (flat qs) ≡ 4 * length qs
-unfolding flat
 length_flat [] a = refl
 length_flat (q ∷ qs) a = let more = length_flat qs (All-tail Four q qs a) in let one : length q ≡ 4 = All-head Four q qs a in length-append q (flat qs) ∙ omega arith
 
 pub fours_flat : (qs : List (List ℕ)) → All Four qs → fours (length qs) (flat qs) ≡ qs
-unfolding fours flat
+unfolding fours
 fours_flat [] a = refl
 fours_flat (q ∷ qs) a =
     ap (λ l. l ∷ first_chunks 4 (length qs) (drop 4 (q ++ flat qs))) (take_at q (flat qs) 4 (All-head Four q qs a))

@@ -1,31 +1,37 @@
 -- An image is read as what it is the image of, and as nothing else.
-use Rattle.std.proofs.Common.{◌≡◌, ℕ, ◌+◌, ◌≤◌, true, cond, leb, List, ◌++◌, length, take, drop, Some, None, sym, ap, ◌∙◌, subst, arith}
-use Rattle.std.proofs.lemmas.List.{drop_at, length-append, length-drop, length-take-le, take-append-drop, take_at}
+use Rattle.std.proofs.Common.{◌≡◌, ℕ, ◌+◌, ◌≤◌, true, false, cond, leb, List, ◌++◌, length, map, take, drop, Some, None, sym, ap, ◌∙◌, subst, arith}
+use Rattle.std.specs.Option.{option_map_or}
+use Rattle.std.proofs.lemmas.List.{drop_at, length-append, length-drop, length-map, length-take-le, take-append-drop, take_at}
 use Rattle.std.proofs.lemmas.Bool.{cond-true, le-leb, leb-true}
+use Rattle.std.proofs.lemmas.Option.{same_Some}
 use Rattle.motor.specs.Kept.{Kept, keeping}
 use Rattle.motor.specs.declared.runs.Run.{Run}
 use Rattle.track.specs.declared.states.Aspect.{Aspect}
-use Rattle.track.specs.declared.states.Train.{Train}
+use Rattle.track.specs.Trains.{Train}
 use Rattle.octets.specs.Each.{each}
 use Rattle.octets.specs.Reads.{aspect_of, run_of, train_of}
 use Rattle.octets.specs.Writes.{aspect_octet, run_octet, train_octets}
-use Rattle.octets.proofs.Inverses.{all_any, all_meant, all_read, all_written, each_long}
+use Rattle.octets.proofs.Inverses.{all_any, all_meant, all_read, all_written, each_long, each_some}
 use Rattle.octets.proofs.Records.{guarded, points_law, signals_law, trains_law}
 use Rattle.station.specs.Station.{Station}
 use Rattle.octets.specs.Frames.{framed, head, rest}
 use Rattle.image.specs.Image.{flat, image, then, whole}
 use Rattle.image.specs.Laws.{Belongs, ImagesLaw}
-use Rattle.image.specs.Tracks.{filled, fours, point_part, signal_part, track_of, train_part}
+use Rattle.image.specs.Tracks.{filled, fours, framing, point_part, signal_part, track_of, train_part}
 use Rattle.image.proofs.Fours.{all_four, flat_fours, fours_flat, length_flat, length_fours}
-use Rattle.image.proofs.Cuts.{Framed, begins, frame, given, is_framed, rest_is}
+use Rattle.image.proofs.Cuts.{Framed, begins, frame, framing_is, given, is_framed, rest_is}
 
 -- what is kept, by what each part is read as
 pub filled_by : (st : Station) (p q : ℕ) (xs : List ℕ) (rs : List Run) (ss : List Aspect) (ts : List Train) → each run_of (point_part p xs) ≡ Some rs → each aspect_of (signal_part p q xs) ≡ Some ss → each (train_of (length st.segments) (length st.joints)) (train_part p q xs) ≡ Some ts → filled st p q xs ≡ Some (keeping rs ss ts)
 filled_by st p q xs rs ss ts x y z = rw (x, y, z)
 
 -- the image, by what stands for each part
-pub image_by : (rs : List Run) (ss : List Aspect) (ts : List Train) (ps qs : List ℕ) (us : List (List ℕ)) → each run_octet rs ≡ Some ps → each (λ a. Some (aspect_octet a)) ss ≡ Some qs → each train_octets ts ≡ Some us → image (keeping rs ss ts) ≡ whole ps qs us
-image_by rs ss ts ps qs us x y z = rw (x, y, z)
+pub image_by : (rs : List Run) (ss : List Aspect) (ts : List Train) (ps : List ℕ) (us : List (List ℕ)) → each run_octet rs ≡ Some ps → each train_octets ts ≡ Some us → image (keeping rs ss ts) ≡ whole ps (map aspect_octet ss) us
+image_by rs ss ts ps us x z = rw (x, z)
+
+-- the octets that signals are read from are those that they are written as
+signals_back : (qs : List ℕ) (ss : List Aspect) → each aspect_of qs ≡ Some ss → map aspect_octet ss ≡ qs
+signals_back qs ss y = same_Some _ _ (sym (each_some aspect_octet ss) ∙ all_written signals_law qs ss y)
 
 module _ (s : Station) where
   abbrev pts : ℕ
@@ -52,9 +58,9 @@ module _ (s : Station) where
 
     found : (k : Kept) → track_of s xs ≡ Some k → Found k
     found k e =
-        let a = guarded (leb pts 32) (then (rest pts sgs) (λ n. cond (framed n xs) (filled s pts sgs xs) None)) k e in
-        let b = given (rest pts sgs) (λ n. cond (framed n xs) (filled s pts sgs xs) None) k a.1 in
-        let c = guarded (framed b.0 xs) (filled s pts sgs xs) k b.2 in
+        let a = guarded (leb pts 32) (cond (framing pts sgs xs) (filled s pts sgs xs) None) k e in
+        let c = guarded (framing pts sgs xs) (filled s pts sgs xs) k a.1 in
+        let b = framing_is pts sgs xs c.0 in
         let d = given (each run_of (point_part pts xs)) _ k c.1 in
         let f = given (each aspect_of (signal_part pts sgs xs)) _ k d.2 in
         let g = given (each (train_of (length s.segments) (length s.joints)) (train_part pts sgs xs)) _ k f.2 in
@@ -63,7 +69,7 @@ module _ (s : Station) where
           n = b.0;
           few = leb-true pts 32 a.0;
           rest_n = b.1;
-          frame_n = frame b.0 xs c.0;
+          frame_n = frame b.0 xs b.2;
           rs = d.0;
           ss = f.0;
           ts = g.0;
@@ -107,9 +113,11 @@ module _ (s : Station) where
       its_image : image k ≡ Some xs
       its_image =
           let ps = all_written points_law (point_part pts xs) f.rs f.runs in
-          let qs = all_written signals_law (signal_part pts sgs xs) f.ss f.signals in
           let us = all_written (trains_law (length s.segments) (length s.joints)) (train_part pts sgs xs) f.ts f.trains in
-          subst (λ m. image m ≡ Some xs) f.all (image_by f.rs f.ss f.ts (point_part pts xs) (signal_part pts sgs xs) (train_part pts sgs xs) ps qs us ∙ all_of_it)
+          subst (λ m. image m ≡ Some xs) f.all
+          (image_by f.rs f.ss f.ts (point_part pts xs) (train_part pts sgs xs) ps us
+          ∙ ap (λ l. whole (point_part pts xs) l (train_part pts sgs xs)) (signals_back (signal_part pts sgs xs) f.ss f.signals)
+          ∙ all_of_it)
 
       belongs : Belongs s k
       belongs =
@@ -123,16 +131,19 @@ module _ (s : Station) where
           })
 
   -- the image of what belongs to the station is read as that
-  module _ (xs : List ℕ) (k : Kept) (b : Belongs s k) (ps qs : List ℕ) (us : List (List ℕ)) (n : ℕ) where
+  module _ (xs : List ℕ) (k : Kept) (b : Belongs s k) (ps : List ℕ) (us : List (List ℕ)) (n : ℕ) where
+    abbrev qs : List ℕ
+    qs = map aspect_octet k.signals
+
     abbrev tail : List ℕ
     tail = ps ++ (qs ++ flat us)
 
-    module _ (x : each run_octet k.runs ≡ Some ps) (y : each (λ a. Some (aspect_octet a)) k.signals ≡ Some qs) (z : each train_octets k.trains ≡ Some us) (w : rest (length ps) (length qs) ≡ Some n) where
+    module _ (x : each run_octet k.runs ≡ Some ps) (z : each train_octets k.trains ≡ Some us) (w : rest (length ps) (length qs) ≡ Some n) where
       ps_long : length ps ≡ pts
       ps_long = each_long run_octet k.runs ps x ∙ b.points
 
       qs_long : length qs ≡ sgs
-      qs_long = each_long (λ a. Some (aspect_octet a)) k.signals qs y ∙ b.signals
+      qs_long = length-map k.signals aspect_octet ∙ b.signals
 
       us_long : length us ≡ 16
       us_long = each_long train_octets k.trains us z ∙ b.sixteen
@@ -154,7 +165,7 @@ module _ (s : Station) where
       signals_again : each aspect_of (signal_part pts sgs (head n ++ tail)) ≡ Some k.signals
       signals_again =
           ap (each aspect_of) (ap (take sgs) past_points ∙ take_at qs (flat us) sgs qs_long)
-          ∙ all_read signals_law k.signals qs (all_any k.signals) y
+          ∙ all_read signals_law k.signals qs (all_any k.signals) (each_some aspect_octet k.signals)
 
       trains_again : each (train_of (length s.segments) (length s.joints)) (train_part pts sgs (head n ++ tail)) ≡ Some k.trains
       trains_again =
@@ -171,18 +182,16 @@ module _ (s : Station) where
       whole_again : track_of s (head n ++ tail) ≡ Some k
       whole_again =
           cond-true (leb pts 32) _ None few_again
-          ∙ ap (λ o. then o (λ m. cond (framed m (head n ++ tail)) (filled s pts sgs (head n ++ tail)) None)) rest_again
-          ∙ cond-true (framed n (head n ++ tail)) (filled s pts sgs (head n ++ tail)) None (is_framed n tail tail_long)
+          ∙ cond-true (framing pts sgs (head n ++ tail)) (filled s pts sgs (head n ++ tail)) None (ap (λ o. option_map_or (λ m. framed m (head n ++ tail)) o false) rest_again ∙ is_framed n tail tail_long)
           ∙ filled_by s pts sgs (head n ++ tail) k.runs k.signals k.trains runs_again signals_again trains_again
 
   read_again : (xs : List ℕ) (k : Kept) → Belongs s k → image k ≡ Some xs → track_of s xs ≡ Some k
   read_again xs k b e =
       let x = given (each run_octet k.runs) _ xs e in
-      let y = given (each (λ a. Some (aspect_octet a)) k.signals) _ xs x.2 in
-      let z = given (each train_octets k.trains) _ xs y.2 in
-      let w = given (rest (length x.0) (length y.0)) _ xs z.2 in
-      let same : head w.0 ++ (x.0 ++ (y.0 ++ flat z.0)) ≡ xs = cc w.2 in
-      subst (λ l. track_of s l ≡ Some k) same (whole_again xs k b x.0 y.0 z.0 w.0 x.1 y.1 z.1 w.1)
+      let z = given (each train_octets k.trains) _ xs x.2 in
+      let w = given (rest (length x.0) (length (map aspect_octet k.signals))) _ xs z.2 in
+      let same : head w.0 ++ (x.0 ++ (map aspect_octet k.signals ++ flat z.0)) ≡ xs = cc w.2 in
+      subst (λ l. track_of s l ≡ Some k) same (whole_again xs k b x.0 z.0 w.0 x.1 z.1 w.1)
 
 pub images_law : (s : Station) → ImagesLaw s
 images_law s = record {

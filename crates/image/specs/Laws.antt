@@ -1,14 +1,13 @@
 -- An image and what a motor track keeps mean each other.
 use Rattle.std.specs.Prelude.{◌≡◌, ℕ, ◌+◌, ◌<◌, ◌≤◌, List, length, Some, All, Option, Result, MatchOption, ◌≢◌}
-use Rattle.std.specs.Result as results
 use Rattle.motor.specs.Kept.{Kept, kept}
-use Rattle.motor.specs.declared.kept.Motor.{Motor}
+use Rattle.motor.specs.Motors.{Motor}
 use Rattle.octets.specs.Laws.{Means, PointWritable, TrainDeclared, TrainWritable, Writes}
 use Rattle.station.specs.Station.{Station}
-use Rattle.track.specs.declared.refusals.Refusal.{Refusal}
 use Rattle.track.specs.declared.refusals.Refusal.TheVariants.{Mismatch}
 use Rattle.image.specs.Image.{image}
-use Rattle.image.specs.Tracks.{track_of}
+use Rattle.image.specs.Tracks.{MatchMade, track_of}
+use Rattle.image.specs.declared.unmade.Unmade.{Unmade}
 
 -- what a motor track may keep at the station: it has the station's points and signals, and its trains name segments and joints of the station
 pub record Belongs (s : Station) (k : Kept) : Type 0 where
@@ -36,10 +35,10 @@ abbrev pub AnswersWhere : {A : Type 0} → Option A → Kept → Type 0
 AnswersWhere o k = MatchOption o (Writable k → ⊥) (λ _. Writable k)
 
 -- a track that is made belongs to the station, and the octets are its image; refused with 40, the octets are the image of no track that does
-abbrev pub MadeFrom : Station → List ℕ → Result Motor Refusal → Type 0
+abbrev pub MadeFrom : Station → List ℕ → Result Motor Unmade → Type 0
 MadeFrom s xs a =
-    results.MatchResult a (λ t. Belongs s (kept t) × (image (kept t) ≡ Some xs)) (λ e. (e ≡ Mismatch) × ((k : Kept) → Belongs s k → image k ≢ Some xs))
+    MatchMade a (λ t. Belongs s (kept t) × (image (kept t) ≡ Some xs)) (λ e. (e ≡ Mismatch) × ((k : Kept) → Belongs s k → image k ≢ Some xs))
 
 -- made from the image of what belongs to the station: a track that keeps just that
-abbrev pub MadeAgain : Station → List ℕ → Result Motor Refusal → Kept → Type 0
-MadeAgain s xs a k = Belongs s k → image k ≡ Some xs → results.MatchResult a (λ t. kept t ≡ k) (λ e. ⊥)
+abbrev pub MadeAgain : Station → List ℕ → Result Motor Unmade → Kept → Type 0
+MadeAgain s xs a k = Belongs s k → image k ≡ Some xs → MatchMade a (λ t. kept t ≡ k) (λ e. ⊥)

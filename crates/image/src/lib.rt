@@ -5,7 +5,9 @@ mod law;
 mod makes;
 mod parts;
 mod tells;
+mod unmade;
 
 pub use law::images_and_tracks;
 pub use makes::track_of;
 pub use tells::image_of;
+pub use unmade::Unmade;

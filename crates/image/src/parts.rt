@@ -1,27 +1,36 @@
 // The parts of an image that follow its first three octets.
-ghost use Rattle.std.specs.Prelude.{◌≡◌, ◌+◌, ◌≤◌, length};
-ghost use Rattle.image.specs.Tracks.{point_part, signal_part, train_part};
+ghost use Rattle.std.specs.Prelude.{◌≡◌, IfSome, is_some};
+ghost use Rattle.image.specs.Tracks.{framing, point_part, signal_part, train_part};
 
-use octets::HEAD;
+use octets::{HEAD, framed, rest_of};
 
-pub(crate) fn point_part(octets: &[u8], points: usize) -> &[u8]
-    requires { 3 + points ≤ length octets.now }
-    ensures { result.now ≡ point_part points octets.now }
-{
-    &octets[HEAD..HEAD + points]
+// The octets of the points, the signals and the trains.
+#[derive(Clone, Copy)]
+pub(crate) struct Parts<'a> {
+    pub(crate) points: &'a [u8],
+    pub(crate) signals: &'a [u8],
+    pub(crate) trains: &'a [[u8; 4]],
 }
 
-pub(crate) fn signal_part(octets: &[u8], points: usize, signals: usize) -> &[u8]
-    requires { 3 + points + signals ≤ length octets.now }
-    ensures { result.now ≡ signal_part points signals octets.now }
-{
-    &octets[HEAD + points..HEAD + points + signals]
-}
-
-pub(crate) fn train_part(octets: &[u8], points: usize, signals: usize) -> &[[u8; 4]]
-    requires { length octets.now ≡ 3 + points + signals + 64 }
-    ensures { result.now ≡ train_part points signals octets.now }
-{
-    let (trains, _) = octets[HEAD + points + signals..].as_chunks::<4>();
-    trains
+impl<'a> Parts<'a> {
+    // The parts of octets that begin as an image of so many points and signals does, and are as long.
+    pub(crate) fn of(octets: &'a [u8], points: usize, signals: usize) -> Option<Parts<'a>>
+        ensures framing { is_some result ≡ framing points signals octets.now }
+        ensures points { IfSome result (λ p. p.points.now ≡ point_part points octets.now) }
+        ensures signals { IfSome result (λ p. p.signals.now ≡ signal_part points signals octets.now) }
+        ensures trains { IfSome result (λ p. p.trains.now ≡ train_part points signals octets.now) }
+    {
+        let rest = rest_of(points, signals)?;
+        if !framed(octets, rest) {
+            return None;
+        }
+        let (points, octets) = octets[HEAD..].split_at(points);
+        let (signals, octets) = octets.split_at(signals);
+        let (trains, _) = octets.as_chunks::<4>();
+        Some(Parts {
+            points,
+            signals,
+            trains,
+        })
+    }
 }

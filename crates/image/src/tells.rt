@@ -1,24 +1,18 @@
 // The image of a motor track, read back.
-ghost use Rattle.std.specs.Prelude.{◌≡◌, ◌++◌, IfOk, OnOk};
-ghost use Rattle.image.specs.Image.{flat, image, whole};
+ghost use Rattle.std.specs.Prelude.{◌≡◌, IfOk, map};
+ghost use Rattle.image.specs.Image.{image, whole};
 ghost use Rattle.image.specs.Laws.{AnswersWhere};
 ghost use Rattle.motor.specs.Kept.{kept};
 ghost use Rattle.octets.specs.Each.{Told};
+ghost use Rattle.octets.specs.Writes.{aspect_octet};
 
 use motor::Motor;
-use octets::{PointWritten, SignalWritten, TrainWritten, each, head, rest_of};
+use octets::{aspect_octet, each, head, point_octet, rest_of, train_octets};
 use std::alloc::{AllocError, Global};
+use track::Aspect;
 
-// The octets of all trains, after those that there are.
-fn add_trains(octets: &mut Vec<u8>, trains: &[[u8; 4]]) -> Result<(), AllocError>
-    ensures { OnOk result (octets.new.items ≡ octets.old.items ++ flat trains.now) }
-{
-    for train in trains {
-        octets.extend_from_slice(train)?;
-    }
-    Ok(())
-}
-
+// The parts of an image in their order, after its first three octets.
+#[tactic(auto, using(std::proofs::Common::append_assoc))]
 fn whole(
     heap: Global,
     points: &[u8],
@@ -31,23 +25,28 @@ fn whole(
         return Ok(None);
     };
     let mut octets = Vec::new(heap);
+    // One after another, since `concat` of an array of slices gets no proof.
     octets.extend_from_slice(&head(rest))?;
     octets.extend_from_slice(points)?;
     octets.extend_from_slice(signals)?;
-    add_trains(&mut octets, trains)?;
+    octets.extend_from_slice(trains.as_flattened())?;
     Ok(Some(octets))
+}
+
+fn signal_octets(heap: Global, aspects: &[Aspect]) -> Result<Vec<u8>, AllocError>
+    ensures { IfOk result (λ v. v.items ≡ map aspect_octet aspects.now) }
+{
+    aspects.iter().map(|a| aspect_octet(*a)).collect(heap)
 }
 
 fn written(heap: Global, track: &Motor) -> Result<Option<Vec<u8>>, AllocError>
     ensures { IfOk result (λ o. Told o (image (kept track.now))) }
 {
-    let Some(points) = each(heap, &PointWritten, track.runs())? else {
+    let Some(points) = each(heap, track.runs(), point_octet)? else {
         return Ok(None);
     };
-    let Some(signals) = each(heap, &SignalWritten, track.aspects())? else {
-        return Ok(None);
-    };
-    let Some(trains) = each(heap, &TrainWritten, track.trains())? else {
+    let signals = signal_octets(heap, track.aspects())?;
+    let Some(trains) = each(heap, track.trains(), train_octets)? else {
         return Ok(None);
     };
     whole(

@@ -4,18 +4,19 @@ ghost use Rattle.conditions.specs.Firsts.{first_fails};
 ghost use Rattle.conditions.specs.States.{a_state};
 ghost use Rattle.calls.specs.Grants.{Acted, Activates, AllActed, Releases, Requests, shown};
 ghost use Rattle.interlocking.specs.Machines.{state_of};
-ghost use Rattle.states.specs.Denials.{answer, by_test};
+ghost use Rattle.states.specs.Denials.{by_test};
+ghost use Rattle.track.specs.Refusals.{answer};
 ghost use Rattle.track.specs.Meaning.{laid};
 
 use crate::machine::Machine;
-use crate::opening::matches;
+use crate::opening::check;
 use acceptance::Accepted;
-use conditions::{Test, first_failing};
+use conditions::{Test, View};
 use lookups::{actions, activation_tests, request_tests, route_count};
 use passing::{is_declared, release_row, signal_of};
 use states::{Denial, Event};
 use station::{Action, Lock};
-use track::{Aspect, Refusal, Trackside};
+use track::{Aspect, Trackside};
 
 // Shows an aspect at the signal, if any.
 pub(crate) fn show<T: Trackside>(
@@ -49,6 +50,7 @@ impl<T: Trackside> Machine<T> {
     fn act_all(&mut self, station: &Accepted<'_>, actions: &[Action])
         ensures { AllActed (laid station.now) actions.now (state_of T.Trackside.meaning self.old) (state_of T.Trackside.meaning self.new) }
     {
+        // A loop, since of what a closure changes a chain promises nothing.
         for a in actions {
             self.act(station, *a);
         }
@@ -58,19 +60,20 @@ impl<T: Trackside> Machine<T> {
     fn hold<X: Test>(&self, station: &Accepted<'_>, tests: &[X]) -> Result<(), Denial>
         ensures { result ≡ answer (by_test (first_fails (λ x. X.Test.holds x (laid station.now) (state_of T.Trackside.meaning self.now)) tests.now)) tt }
     {
-        match first_failing(tests, station, &self.states, &self.track) {
-            Some(k) => Err(Denial::Fails(k)),
-            None => Ok(()),
-        }
+        let view = View {
+            station,
+            states: &self.states,
+            track: &self.track,
+        };
+        view.first_failing(tests)
+            .map_or(Ok(()), |k| Err(Denial::Fails(k)))
     }
 
     // Requests a route: where all tests of its row hold, its actions follow.
     pub fn request(&mut self, station: &Accepted<'_>, route: usize) -> Result<(), Denial>
         ensures { Requests (laid station.now) (state_of T.Trackside.meaning self.old) route result (state_of T.Trackside.meaning self.new) }
     {
-        if !matches(&self.track, station) {
-            return Err(Denial::Track(Refusal::Mismatch));
-        }
+        check(&self.track, station)?;
         let tables = station.tables();
         if route >= route_count(tables) {
             return Err(Denial::Unknown);
@@ -84,16 +87,13 @@ impl<T: Trackside> Machine<T> {
     pub fn activate(&mut self, station: &Accepted<'_>, route: usize) -> Result<(), Denial>
         ensures { Activates (laid station.now) (state_of T.Trackside.meaning self.old) route result (state_of T.Trackside.meaning self.new) }
     {
-        if !matches(&self.track, station) {
-            return Err(Denial::Track(Refusal::Mismatch));
-        }
+        check(&self.track, station)?;
         let tables = station.tables();
         if route >= route_count(tables) {
             return Err(Denial::Unknown);
         }
-        if let None = self.states.route(route).next(Event::Activation) {
-            return Err(Denial::Idle);
-        }
+        let active = self.states.route(route).next(Event::Activation);
+        active.ok_or(Denial::Idle)?;
         self.hold(station, activation_tests(tables, route))?;
         self.states.move_route(route, Event::Activation);
         show(
@@ -109,9 +109,7 @@ impl<T: Trackside> Machine<T> {
     pub fn release(&mut self, station: &Accepted<'_>, lock: Lock) -> Result<(), Denial>
         ensures { Releases (laid station.now) (state_of T.Trackside.meaning self.old) lock result (state_of T.Trackside.meaning self.new) }
     {
-        if !matches(&self.track, station) {
-            return Err(Denial::Track(Refusal::Mismatch));
-        }
+        check(&self.track, station)?;
         let tables = station.tables();
         if !is_declared(tables, lock) {
             return Err(Denial::Unknown);

@@ -2,39 +2,26 @@
 ghost use Rattle.std.specs.Prelude.{◌≡◌};
 ghost use Rattle.conditions.specs.States.{a_state};
 ghost use Rattle.interlocking.specs.Machines.{state_of};
-ghost use Rattle.calls.specs.Moves.{Entering, Fronting, Rearing, Settling, Turning, advanced, is_inside, lifted, passed, went_on};
+ghost use Rattle.calls.specs.Moves.{Entering, Fronting, Rearing, Settling, Turning, advanced, is_inside, passed, went_on};
 ghost use Rattle.track.specs.Calls.{place_answer};
 ghost use Rattle.track.specs.Meaning.{laid};
 
 use crate::grants::show;
 use crate::machine::Machine;
-use crate::opening::matches;
+use crate::opening::check;
 use acceptance::Accepted;
 use passing::{note_from, pass_routes};
-use states::Denial;
-use track::{Aspect, Front, Refusal, Trackside, Train};
+use states::{Denial, Note};
+use track::{Aspect, Place, Trackside};
 
 // Whether the trackside answers that the train's front is in a segment.
 fn is_inside<T: Trackside>(track: &T, station: &Accepted<'_>, train: usize) -> bool
     ensures { result ≡ is_inside (place_answer (laid station.now) (T.Trackside.meaning track.now) train) }
 {
-    match track.place(station, train) {
-        Ok(Train::Present(p)) => match p.front {
-            Front::In(_) => true,
-            Front::Outside => false,
-        },
-        _ => false,
-    }
-}
-
-// What the trackside answers is answered.
-fn lifted<A>(told: Result<A, Refusal>) -> Result<A, Denial>
-    ensures { result ≡ lifted told }
-{
-    match told {
-        Ok(x) => Ok(x),
-        Err(e) => Err(Denial::Track(e)),
-    }
+    matches!(
+        track.place(station, train),
+        Ok(Some(Place { front: Some(_), .. }))
+    )
 }
 
 impl<T: Trackside> Machine<T> {
@@ -54,10 +41,7 @@ impl<T: Trackside> Machine<T> {
         ensures { state_of T.Trackside.meaning self.new ≡ advanced (laid station.now) (state_of T.Trackside.meaning self.old) train }
     {
         if is_inside(&self.track, station, train) {
-            let note = match self.states.note(train) {
-                Some(n) => Some(n.next()),
-                None => None,
-            };
+            let note = self.states.note(train).map(Note::next);
             self.states.set_note(train, note);
         }
     }
@@ -76,13 +60,8 @@ impl<T: Trackside> Machine<T> {
     pub fn settle(&mut self, station: &Accepted<'_>, point: usize) -> Result<bool, Denial>
         ensures { Settling (laid station.now) (state_of T.Trackside.meaning self.old) point result (state_of T.Trackside.meaning self.new) }
     {
-        if !matches(&self.track, station) {
-            return Err(Denial::Track(Refusal::Mismatch));
-        }
-        match self.track.settle(station, point) {
-            Ok(settled) => Ok(settled),
-            Err(e) => Err(Denial::Track(e)),
-        }
+        check(&self.track, station)?;
+        Ok(self.track.settle(station, point)?)
     }
 
     // A train enters from outside past a signal.
@@ -94,57 +73,37 @@ impl<T: Trackside> Machine<T> {
     ) -> Result<(), Denial>
         ensures { Entering (laid station.now) (state_of T.Trackside.meaning self.old) train signal result (state_of T.Trackside.meaning self.new) }
     {
-        if !matches(&self.track, station) {
-            return Err(Denial::Track(Refusal::Mismatch));
-        }
-        match self.track.enter(station, train, signal) {
-            Ok(()) => {
-                self.pass(station, train, signal);
-                Ok(())
-            }
-            Err(e) => Err(Denial::Track(e)),
-        }
+        check(&self.track, station)?;
+        self.track.enter(station, train, signal)?;
+        self.pass(station, train, signal);
+        Ok(())
     }
 
     // A train's front goes on; answers the signal that it passed.
     pub fn front(&mut self, station: &Accepted<'_>, train: usize) -> Result<Option<usize>, Denial>
         ensures { Fronting (laid station.now) (state_of T.Trackside.meaning self.old) train result (state_of T.Trackside.meaning self.new) }
     {
-        if !matches(&self.track, station) {
-            return Err(Denial::Track(Refusal::Mismatch));
-        }
-        match self.track.front(station, train) {
-            Ok(passed) => {
-                self.go_on(station, train, passed);
-                Ok(passed)
-            }
-            Err(e) => Err(Denial::Track(e)),
-        }
+        check(&self.track, station)?;
+        let passed = self.track.front(station, train)?;
+        self.go_on(station, train, passed);
+        Ok(passed)
     }
 
     // A train gives up the segment behind its front.
     pub fn rear(&mut self, station: &Accepted<'_>, train: usize) -> Result<(), Denial>
         ensures { Rearing (laid station.now) (state_of T.Trackside.meaning self.old) train result (state_of T.Trackside.meaning self.new) }
     {
-        if !matches(&self.track, station) {
-            return Err(Denial::Track(Refusal::Mismatch));
-        }
-        lifted(self.track.rear(station, train))
+        check(&self.track, station)?;
+        Ok(self.track.rear(station, train)?)
     }
 
     // Turns a train; nothing is noted of it then.
     pub fn turn(&mut self, station: &Accepted<'_>, train: usize) -> Result<(), Denial>
         ensures { Turning (laid station.now) (state_of T.Trackside.meaning self.old) train result (state_of T.Trackside.meaning self.new) }
     {
-        if !matches(&self.track, station) {
-            return Err(Denial::Track(Refusal::Mismatch));
-        }
-        match self.track.turn(station, train) {
-            Ok(()) => {
-                self.states.set_note(train, None);
-                Ok(())
-            }
-            Err(e) => Err(Denial::Track(e)),
-        }
+        check(&self.track, station)?;
+        self.track.turn(station, train)?;
+        self.states.set_note(train, None);
+        Ok(())
     }
 }

@@ -1,5 +1,5 @@
 -- The test of each rule of the layout tells what the rule says.
-use Rattle.std.proofs.Common.{◌≡◌, ℕ, ◌<◌, List, length, Decides, Contains}
+use Rattle.std.proofs.Common.{◌≡◌, ℕ, ◌<◌, List, length, Decides, Contains, Option, sym, subst}
 use Rattle.std.proofs.lemmas.Bool.Decides.{Decides-eqb, Decides-ltb, Decides-not, Decides-and, Decides-or, Decides-like}
 use Rattle.firsts.proofs.Below.{decides_all_below}
 use Rattle.firsts.proofs.Elements.{decides_has, decides_some, decides_every}
@@ -84,16 +84,15 @@ decides_signal_sound s x =
     (decides_touches s x.joint x.segment)
     (Decides-not _ (decides_is_stop (across s x.joint x.segment))))
 
--- so the first thing of which the test fails is the first that breaks the rule
-pub first_11 : (s : Station) → Breach11 s (breach_11 s)
-first_11 s = breach_is (parts s) (Parts s) (decides_parts s) (length s.joints)
+-- so what is the first thing of which the test fails is the first that breaks the rule
+pub first_11 : (s : Station) (r : Option ℕ) → r ≡ breach_11 s → Breach11 s r
+first_11 s r e = subst (Breach11 s) (sym e) (breach_is (parts s) (Parts s) (decides_parts s) (length s.joints))
 
-pub first_12 : (s : Station) → Breach12 s (breach_12 s)
-first_12 s = breach_is (sound_way s) (SoundWay s) (decides_way s) (length s.ways)
+pub first_12 : (s : Station) (r : Option ℕ) → r ≡ breach_12 s → Breach12 s r
+first_12 s r e = subst (Breach12 s) (sym e) (breach_is (sound_way s) (SoundWay s) (decides_way s) (length s.ways))
 
-pub first_13 : (s : Station) → Breach13 s (breach_13 s)
-first_13 s = pair_is (pair_apart s) (PairApart s) (decides_pair s) (length s.ways) (length s.ways)
+pub first_13 : (s : Station) (r : Option (ℕ × ℕ)) → r ≡ breach_13 s → Breach13 s r
+first_13 s r e = subst (Breach13 s) (sym e) (pair_is (pair_apart s) (PairApart s) (decides_pair s) (length s.ways) (length s.ways))
 
-pub first_14 : (s : Station) → Breach14 s (breach_14 s)
-first_14 s =
-    breach_is (λ n. sound_signal s (signal_at s n)) (λ n. SoundSignal s (signal_at s n)) (λ n. decides_signal_sound s (signal_at s n)) (length s.signals)
+pub first_14 : (s : Station) (r : Option ℕ) → r ≡ breach_14 s → Breach14 s r
+first_14 s r e = subst (Breach14 s) (sym e) (breach_is (λ n. sound_signal s (signal_at s n)) (λ n. SoundSignal s (signal_at s n)) (λ n. decides_signal_sound s (signal_at s n)) (length s.signals))

@@ -1,6 +1,6 @@
 -- Rule 13: two ways have not the same two joints, and two ways of one segment that share a joint have not all points alike.
 use Rattle.std.specs.Prelude.{◌≡◌, ℕ, ◌<◌, Bool, true, cond, not, ◌&&◌, ◌||◌, ◌⊎◌, List, length, Contains, Option, ◌==◌, nat_lt}
-use Rattle.firsts.specs.Claims.{first_pair, FirstPair}
+use Rattle.firsts.specs.Claims.{first_failing, paired, first_pair, FirstPair}
 use Rattle.firsts.specs.Lists.{all, any}
 use Rattle.station.specs.declared.tables.Setting.{Setting}
 use Rattle.station.specs.Station.{Station, WayEntry}
@@ -48,6 +48,10 @@ PairApart s i j = i < j → WaysApart (way_at s i) (way_at s j)
 
 abbrev pub pair_apart : Station → ℕ × ℕ → Bool
 pair_apart s q = cond (nat_lt q.0 q.1) (ways_apart (way_at s q.0) (way_at s q.1)) true
+
+-- a way, and the first one that cannot be told apart from it
+abbrev pub pair_of : Station → ℕ → Option (ℕ × ℕ)
+pair_of s i = paired i (first_failing (λ j. pair_apart s (i, j)) (length s.ways))
 
 -- the first two ways that break the rule
 abbrev pub breach_13 : Station → Option (ℕ × ℕ)

@@ -1,98 +1,42 @@
 // The settings of ways.
 ghost use Rattle.std.specs.Prelude.{◌≡◌, not, ◌==◌};
 ghost use Rattle.firsts.specs.Claims.{all_below};
-ghost use Rattle.firsts.specs.Lists.{any};
-ghost use Rattle.station.specs.Alike.{same_setting};
 ghost use Rattle.layout_rules.specs.Ways.{named, names, once_each};
 ghost use Rattle.layout_rules.specs.WayPairs.{within};
 
-use alike::has;
-use firsts::{Claim, every_below, every_of, some_of};
 use station::Setting;
-
-#[derive(Clone, Copy)]
-struct Naming {
-    point: usize,
-}
-
-impl Claim<Setting> for Naming {
-    ghost holds = { λ s x. (x.point == s.point) };
-
-    fn holds(&self, x: Setting) -> bool {
-        x.point == self.point
-    }
-}
 
 // Whether some setting names the point.
 pub(crate) fn names(settings: &[Setting], point: usize) -> bool
     ensures { result ≡ names settings.now point }
 {
-    some_of(&Naming { point }, settings)
+    settings.iter().any(|x| x.point == point)
 }
 
 // The point that the i-th setting names, or 0.
 fn named(settings: &[Setting], i: usize) -> usize
     ensures { result ≡ named settings.now i }
 {
-    if i < settings.len() {
-        settings[i].point
-    } else {
-        0
-    }
+    settings.get(i).map_or(0, |x| x.point)
 }
 
-#[derive(Clone, Copy)]
-struct Unlike<'a> {
-    settings: &'a [Setting],
-    point: usize,
-}
-
-impl<'a> Claim<usize> for Unlike<'a> {
-    ghost holds = { λ s i. not (named s.settings.now i == s.point) };
-
-    fn holds(&self, i: usize) -> bool {
-        named(self.settings, i) != self.point
-    }
-}
-
-#[derive(Clone, Copy)]
-struct Once<'a> {
-    settings: &'a [Setting],
-}
-
-impl<'a> Claim<usize> for Once<'a> {
-    ghost holds = { λ s k. all_below (λ i. not (named s.settings.now i == named s.settings.now k)) k };
-
-    fn holds(&self, k: usize) -> bool {
-        let settings = self.settings;
-        let point = named(settings, k);
-        every_below(&Unlike { settings, point }, k)
-    }
+// Whether no setting before the k-th names its point.
+fn first_named(settings: &[Setting], k: usize) -> bool
+    ensures { result ≡ all_below (λ i. not (named settings.now i == named settings.now k)) k }
+{
+    (0..k).all(|i| named(settings, i) != named(settings, k))
 }
 
 // Whether no point is named twice.
 pub(crate) fn once_each(settings: &[Setting]) -> bool
     ensures { result ≡ once_each settings.now }
 {
-    every_below(&Once { settings }, settings.len())
-}
-
-#[derive(Clone, Copy)]
-struct Among<'a> {
-    settings: &'a [Setting],
-}
-
-impl<'a> Claim<Setting> for Among<'a> {
-    ghost holds = { λ s x. any (same_setting x) s.settings.now };
-
-    fn holds(&self, x: Setting) -> bool {
-        has(self.settings, &x)
-    }
+    (0..settings.len()).all(|k| first_named(settings, k))
 }
 
 // Whether each setting is one of the others.
 pub(crate) fn within(settings: &[Setting], others: &[Setting]) -> bool
     ensures { result ≡ within settings.now others.now }
 {
-    every_of(&Among { settings: others }, settings)
+    settings.iter().all(|x| others.contains(x))
 }

@@ -1,11 +1,12 @@
 // Rule 13: two ways have not the same two joints, and two ways of one segment that share a joint have not all points alike.
-ghost use Rattle.std.specs.Prelude.{◌≡◌};
+ghost use Rattle.std.specs.Prelude.{◌≡◌, length};
+ghost use Rattle.firsts.specs.Claims.{first_failing};
 ghost use Rattle.station.specs.Station.{station};
 ghost use Rattle.lookups.specs.Shapes.{shape_entry};
-ghost use Rattle.layout_rules.specs.WayPairs.{same_joints, share_joint, points_alike, ways_apart, pair_apart, breach_13, Breach13};
+ghost use Rattle.layout_rules.specs.WayPairs.{same_joints, share_joint, points_alike, ways_apart, pair_apart, pair_of, breach_13, Breach13};
 
 use crate::settings::within;
-use firsts::{Claim, first_pair};
+use firsts::first_breach;
 use lookups::{Shape, shape, way_count};
 use station::Tables;
 
@@ -42,29 +43,39 @@ fn ways_apart(v: Shape<'_>, w: Shape<'_>) -> bool
     true
 }
 
-#[derive(Clone, Copy)]
-struct Pairs<'a> {
-    tables: &'a Tables,
+// Whether two ways, the first named first, can be told apart.
+fn pair_apart(tables: &Tables, i: usize, j: usize) -> bool
+    ensures { result ≡ pair_apart (station tables.now) (i, j) }
+{
+    i >= j || ways_apart(shape(tables, i), shape(tables, j))
 }
 
-impl<'a> Claim<(usize, usize)> for Pairs<'a> {
-    ghost holds = { λ s q. pair_apart (station s.tables.now) q };
+// The first way that cannot be told apart from the one named first.
+fn partner(tables: &Tables, i: usize) -> Option<usize>
+    ensures { result ≡ first_failing (λ j. pair_apart (station tables.now) (i, j)) (length (station tables.now).ways) }
+{
+    first_breach(way_count(tables), |j| pair_apart(tables, i, j))
+}
 
-    fn holds(&self, pair: (usize, usize)) -> bool {
-        let (i, j) = pair;
-        if i < j {
-            ways_apart(shape(self.tables, i), shape(self.tables, j))
-        } else {
-            true
-        }
-    }
+// A way, and the first one that cannot be told apart from it.
+fn pair_of(tables: &Tables, i: usize) -> Option<(usize, usize)>
+    ensures { result ≡ pair_of (station tables.now) i }
+{
+    partner(tables, i).map(|j| (i, j))
+}
+
+// Not one search with rule 26's over pairs: it was tried, and what its inner closure ensures is not found.
+fn first_pair(tables: &Tables) -> Option<(usize, usize)>
+    ensures { result ≡ breach_13 (station tables.now) }
+{
+    (0..way_count(tables)).find_map(|i| pair_of(tables, i))
 }
 
 // The first two ways that cannot be told apart.
+#[tactic(auto, using(crate::proofs::Told::first_13))]
 pub fn rule_13(tables: &Tables) -> Option<(usize, usize)>
     ensures value { result ≡ breach_13 (station tables.now) }
     ensures first { Breach13 (station tables.now) result }
 {
-    let n = way_count(tables);
-    first_pair(&Pairs { tables }, n, n)
+    first_pair(tables)
 }

@@ -1,9 +1,8 @@
 // The lever track: a point is settled as soon as it is driven.
 #![tactic(auto)]
 
-mod calls;
-mod kept;
-mod lending;
-mod stands;
+mod law;
+mod points;
 
-pub use kept::Lever;
+pub use law::settles_at_once;
+pub use points::{Lever, LeverPoint};

@@ -1,11 +1,13 @@
 -- The test of each rule of locks tells what the rule says.
-use Rattle.std.proofs.Common.{◌≡◌, ℕ, ◌-◌, ◌<◌, Bool, true, false, cond, ltb, List, length, Decides, Contains, sym, refl, ap, ◌∙◌, subst, ⊎_elim, arith}
+use Rattle.std.proofs.Common.{◌≡◌, ℕ, zero, suc, ◌-◌, ◌<◌, ◌≤◌, Bool, true, false, cond, ltb, List, length, Decides, Contains, Option, sym, refl, ap, ◌∙◌, subst, ⊎_elim, arith}
 use Rattle.std.proofs.lemmas.List.Elements.{Contains-get_or}
 use Rattle.std.proofs.lemmas.Bool.{both_ways, cases_lt}
 use Rattle.std.proofs.lemmas.Bool.Decides.{Decides-eqb, Decides-ltb, Decides-and, Decides-like}
 use Rattle.firsts.proofs.Below.{decides_all_below}
 use Rattle.firsts.proofs.Elements.{decides_has}
 use Rattle.firsts.proofs.Firsts.{breach_is, pair_is}
+use Rattle.firsts.specs.Lists.{any}
+use Rattle.station.specs.Alike.{same_release}
 use Rattle.station.specs.declared.tests.ReleaseTest.{ReleaseTest}
 use Rattle.station.specs.declared.tests.ReleaseTest.TheVariants.{Unset, Free, Clear}
 use Rattle.station.specs.Station.{Station}
@@ -50,6 +52,11 @@ decides_along s ts u r =
 pub used_at : (s : Station) (r k u : ℕ) → k < path_length s r → on_path s r k ≡ u → Uses s r u
 used_at s r k u l e = subst (Contains (path s r)) e (Contains-get_or (path s r) k 0 l)
 
+-- at the first place the tests ask for the route itself
+pub asks_first : (s : Station) (ts : List ReleaseTest) (r k : ℕ) → k ≤ 0 → any (same_release (Unset r)) ts ≡ asks_before s ts r k
+asks_first s ts r zero h = refl
+asks_first s ts r (suc k) h = absurd (omega (arith, h))
+
 pub decides_sound_release : (s : Station) (u : ℕ) → Decides (sound_release s u) (SoundRelease s u)
 decides_sound_release s u =
     let ts = release_at s u in
@@ -81,9 +88,9 @@ pub decides_26 : (s : Station) (p u : ℕ) → Decides (kept_26 s (p, u)) (Kept2
 decides_26 s p u =
     decides_where _ _ (Decides-eqb (segment_of s u) (point_at s p).home) (decides_where _ _ (decides_used s u) (decides_rows s p u))
 
--- so the first thing of which the test fails is the first that breaks the rule
-pub first_25 : (s : Station) → Breach25 s (breach_25 s)
-first_25 s = breach_is (kept_25 s) (Kept25 s) (decides_25 s) (subroutes s)
+-- so what is the first thing of which the test fails is the first that breaks the rule
+pub first_25 : (s : Station) (r : Option ℕ) → r ≡ breach_25 s → Breach25 s r
+first_25 s r e = subst (Breach25 s) (sym e) (breach_is (kept_25 s) (Kept25 s) (decides_25 s) (subroutes s))
 
-pub first_26 : (s : Station) → Breach26 s (breach_26 s)
-first_26 s = pair_is (kept_26 s) (Kept26 s) (decides_26 s) (length s.points) (subroutes s)
+pub first_26 : (s : Station) (r : Option (ℕ × ℕ)) → r ≡ breach_26 s → Breach26 s r
+first_26 s r e = subst (Breach26 s) (sym e) (pair_is (kept_26 s) (Kept26 s) (decides_26 s) (length s.points) (subroutes s))

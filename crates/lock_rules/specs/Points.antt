@@ -1,6 +1,6 @@
 -- Rule 26: each row of a point tests free every used subroute of its home segment, or a zone that covers it.
 use Rattle.std.specs.Prelude.{◌≡◌, ℕ, Bool, true, cond, ◌&&◌, length, Option, ◌==◌}
-use Rattle.firsts.specs.Claims.{first_pair, FirstPair}
+use Rattle.firsts.specs.Claims.{first_failing, paired, first_pair, FirstPair}
 use Rattle.station.specs.Station.{Station}
 use Rattle.station.specs.Numbers.{point_at}
 use Rattle.station.specs.Subroutes.{subroutes, segment_of}
@@ -20,6 +20,10 @@ Kept26 s p u = segment_of s u ≡ (point_at s p).home → Used s u → RowsGuard
 
 abbrev pub kept_26 : Station → ℕ × ℕ → Bool
 kept_26 s q = cond (segment_of s q.1 == (point_at s q.0).home) (cond (used s q.1) (rows_guard s q.0 q.1) true) true
+
+-- a point, and the first subroute that a row of it leaves open
+abbrev pub breach_of : Station → ℕ → Option (ℕ × ℕ)
+breach_of s p = paired p (first_failing (λ u. kept_26 s (p, u)) (subroutes s))
 
 -- the first point and subroute that break the rule
 abbrev pub breach_26 : Station → Option (ℕ × ℕ)

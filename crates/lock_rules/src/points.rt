@@ -1,9 +1,11 @@
 // Rule 26: each row of a point tests free every used subroute of its home segment, or a zone that covers it.
 ghost use Rattle.std.specs.Prelude.{◌≡◌};
+ghost use Rattle.firsts.specs.Claims.{first_failing};
 ghost use Rattle.station.specs.Station.{station};
-ghost use Rattle.lock_rules.specs.Points.{rows_guard, kept_26, breach_26, Breach26};
+ghost use Rattle.station.specs.Subroutes.{subroutes};
+ghost use Rattle.lock_rules.specs.Points.{rows_guard, kept_26, breach_of, breach_26, Breach26};
 
-use firsts::{Claim, first_pair};
+use firsts::first_breach;
 use lookups::{home, normal_tests, point_count, reverse_tests, segment_of, subroute_count};
 use paths::{point_guards, used};
 use station::Tables;
@@ -16,32 +18,39 @@ fn rows_guard(tables: &Tables, p: usize, u: usize) -> bool
         && point_guards(tables, reverse_tests(tables, p), u)
 }
 
-#[derive(Clone, Copy)]
-struct Rows<'a> {
-    tables: &'a Tables,
+// Whether the subroute lies elsewhere, is used by no route, or is kept free by both rows of the point.
+fn kept(tables: &Tables, p: usize, u: usize) -> bool
+    ensures { result ≡ kept_26 (station tables.now) (p, u) }
+{
+    segment_of(tables, u) != home(tables, p) || !used(tables, u) || rows_guard(tables, p, u)
 }
 
-impl<'a> Claim<(usize, usize)> for Rows<'a> {
-    ghost holds = { λ s q. kept_26 (station s.tables.now) q };
+// The first subroute that a row of the point leaves open.
+fn first_open(tables: &Tables, p: usize) -> Option<usize>
+    ensures { result ≡ first_failing (λ u. kept_26 (station tables.now) (p, u)) (subroutes (station tables.now)) }
+{
+    first_breach(subroute_count(tables), |u| kept(tables, p, u))
+}
 
-    fn holds(&self, pair: (usize, usize)) -> bool {
-        let (p, u) = pair;
-        if segment_of(self.tables, u) == home(self.tables, p) && used(self.tables, u) {
-            rows_guard(self.tables, p, u)
-        } else {
-            true
-        }
-    }
+// A point, and the first subroute that a row of it leaves open.
+fn breach_of(tables: &Tables, p: usize) -> Option<(usize, usize)>
+    ensures { result ≡ breach_of (station tables.now) p }
+{
+    first_open(tables, p).map(|u| (p, u))
+}
+
+// Not one search with rule 13's over pairs: it was tried, and what its inner closure ensures is not found.
+fn first_open_row(tables: &Tables) -> Option<(usize, usize)>
+    ensures { result ≡ breach_26 (station tables.now) }
+{
+    (0..point_count(tables)).find_map(|p| breach_of(tables, p))
 }
 
 // The first point, and used subroute of its home segment, that a row of the point leaves open.
+#[tactic(auto, using(crate::proofs::Told::first_26))]
 pub fn rule_26(tables: &Tables) -> Option<(usize, usize)>
     ensures value { result ≡ breach_26 (station tables.now) }
     ensures first { Breach26 (station tables.now) result }
 {
-    first_pair(
-        &Rows { tables },
-        point_count(tables),
-        subroute_count(tables),
-    )
+    first_open_row(tables)
 }

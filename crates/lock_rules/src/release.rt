@@ -1,67 +1,57 @@
 // Rule 25: the release row of a used subroute tests its segment, the routes that it starts, and the subroutes just before it.
-ghost use Rattle.std.specs.Prelude.{◌≡◌, true, if◌then◌else◌, nat_eq};
+ghost use Rattle.std.specs.Prelude.{◌≡◌, ◌==◌, cond, length, true};
+ghost use Rattle.firsts.specs.Claims.{all_below};
+ghost use Rattle.station.specs.Paths.{on_path, path_length};
 ghost use Rattle.station.specs.Station.{station};
-ghost use Rattle.station.specs.Paths.{on_path};
 ghost use Rattle.lock_rules.specs.Release.{asks_before, asks_along, sound_release, kept_25, breach_25, Breach25};
 
-use alike::has;
-use firsts::{Claim, every_below, first_breach};
+use firsts::first_breach;
 use lookups::{release_tests, route_count, segment_of, subroute_count};
 use paths::{on_path, path_length, used, uses};
 use station::{ReleaseTest, Tables};
 
-// Whether the tests ask for what stands before the k-th place of the route's path: at the first, the route itself.
-fn asks_before(tables: &Tables, tests: &[ReleaseTest], route: usize, k: usize) -> bool
-    ensures { result ≡ asks_before (station tables.now) tests.now route k }
-{
-    if 0 < k {
-        has(tests, &ReleaseTest::Free(on_path(tables, route, k - 1)))
-    } else {
-        has(tests, &ReleaseTest::Unset(route))
-    }
-}
-
+// A subroute, with the tests of its release row.
 #[derive(Clone, Copy)]
-struct Places<'a, 'b> {
+struct Release<'a> {
     tables: &'a Tables,
-    tests: &'b [ReleaseTest],
     subroute: usize,
-    route: usize,
+    tests: &'a [ReleaseTest],
 }
 
-impl<'a, 'b> Claim<usize> for Places<'a, 'b> {
-    ghost holds = { λ s k. (if nat_eq (on_path (station s.tables.now) s.route k) s.subroute then asks_before (station s.tables.now) s.tests.now s.route k else true) };
-
-    fn holds(&self, k: usize) -> bool {
-        if on_path(self.tables, self.route, k) == self.subroute {
-            asks_before(self.tables, self.tests, self.route, k)
+impl<'a> Release<'a> {
+    // Whether the tests ask for what stands before the k-th place of the route's path: at the first, the route itself.
+    fn asks_before(&self, route: usize, k: usize) -> bool
+        ensures { result ≡ asks_before (station self.now.tables.now) self.now.tests.now route k }
+    {
+        if 0 < k {
+            self.tests
+                .contains(&ReleaseTest::Free(on_path(self.tables, route, k - 1)))
         } else {
-            true
+            self.tests.contains(&ReleaseTest::Unset(route))
         }
     }
-}
 
-#[derive(Clone, Copy)]
-struct Along<'a, 'b> {
-    tables: &'a Tables,
-    tests: &'b [ReleaseTest],
-    subroute: usize,
-}
+    // Whether they do at each place of the route's path that has the subroute.
+    fn asks_at_each(&self, route: usize) -> bool
+        ensures { result ≡ all_below (λ k. cond (on_path (station self.now.tables.now) route k == self.now.subroute) (asks_before (station self.now.tables.now) self.now.tests.now route k) true) (path_length (station self.now.tables.now) route) }
+    {
+        (0..path_length(self.tables, route)).all(|k| {
+            on_path(self.tables, route, k) != self.subroute || self.asks_before(route, k)
+        })
+    }
 
-impl<'a, 'b> Claim<usize> for Along<'a, 'b> {
-    ghost holds = { λ s r. asks_along (station s.tables.now) s.tests.now s.subroute r };
+    // Whether they do wherever the route's path has the subroute.
+    fn asks_along(&self, route: usize) -> bool
+        ensures { result ≡ asks_along (station self.now.tables.now) self.now.tests.now self.now.subroute route }
+    {
+        !uses(self.tables, route, self.subroute) || self.asks_at_each(route)
+    }
 
-    fn holds(&self, route: usize) -> bool {
-        if !uses(self.tables, route, self.subroute) {
-            return true;
-        }
-        let places = Places {
-            tables: self.tables,
-            tests: self.tests,
-            subroute: self.subroute,
-            route,
-        };
-        every_below(&places, path_length(self.tables, route))
+    // Whether they do on the path of each route.
+    fn asks_everywhere(&self) -> bool
+        ensures { result ≡ all_below (asks_along (station self.now.tables.now) self.now.tests.now self.now.subroute) (length (station self.now.tables.now).routes) }
+    {
+        (0..route_count(self.tables)).all(|route| self.asks_along(route))
     }
 }
 
@@ -69,37 +59,28 @@ impl<'a, 'b> Claim<usize> for Along<'a, 'b> {
 fn sound_release(tables: &Tables, u: usize) -> bool
     ensures { result ≡ sound_release (station tables.now) u }
 {
-    let tests = release_tests(tables, u);
-    let along = Along {
+    let row = Release {
         tables,
-        tests,
         subroute: u,
+        tests: release_tests(tables, u),
     };
-    has(tests, &ReleaseTest::Clear(segment_of(tables, u)))
-        && every_below(&along, route_count(tables))
+    row.tests
+        .contains(&ReleaseTest::Clear(segment_of(tables, u)))
+        && row.asks_everywhere()
 }
 
-#[derive(Clone, Copy)]
-struct Releases<'a> {
-    tables: &'a Tables,
-}
-
-impl<'a> Claim<usize> for Releases<'a> {
-    ghost holds = { λ s u. kept_25 (station s.tables.now) u };
-
-    fn holds(&self, u: usize) -> bool {
-        if used(self.tables, u) {
-            sound_release(self.tables, u)
-        } else {
-            true
-        }
-    }
+// Whether the subroute is used by no route or has a sound row.
+fn kept(tables: &Tables, u: usize) -> bool
+    ensures { result ≡ kept_25 (station tables.now) u }
+{
+    !used(tables, u) || sound_release(tables, u)
 }
 
 // The first used subroute that may be released too early.
+#[tactic(auto, using(crate::proofs::Told::first_25))]
 pub fn rule_25(tables: &Tables) -> Option<usize>
     ensures value { result ≡ breach_25 (station tables.now) }
     ensures first { Breach25 (station tables.now) result }
 {
-    first_breach(&Releases { tables }, subroute_count(tables))
+    first_breach(subroute_count(tables), |u| kept(tables, u))
 }

@@ -1,4 +1,4 @@
-// How many things the tables have.
+// How many things the tables have: each is one call of the library's generic `len` on a field of its own, which no type parameter names.
 ghost use Rattle.std.specs.Prelude.{◌≡◌, length};
 ghost use Rattle.station.specs.Station.{station};
 ghost use Rattle.station.specs.Subroutes.{subroutes};

@@ -6,38 +6,28 @@ ghost use Rattle.station.specs.Joints.{is_segment, is_stop, beside, touches, acr
 
 use crate::counts::joint_count;
 use crate::numbers::joint;
-use alike::has;
 use station::{Beyond, Signal, Tables};
 
 // Whether a side is the segment.
 pub fn is_segment(side: Beyond, segment: usize) -> bool
     ensures { result ≡ is_segment side segment }
 {
-    match side {
-        Beyond::Segment(t) => t == segment,
-        Beyond::Outside => false,
-        Beyond::BufferStop => false,
-    }
+    side == Beyond::Segment(segment)
 }
 
 pub fn is_stop(side: Beyond) -> bool
     ensures { result ≡ is_stop side }
 {
-    match side {
-        Beyond::BufferStop => true,
-        Beyond::Segment(_) => false,
-        Beyond::Outside => false,
-    }
+    side == Beyond::BufferStop
 }
 
 // Whether a side of the joint is the segment.
 fn beside(tables: &Tables, j: usize, segment: usize) -> bool
     ensures { result ≡ beside (station tables.now) j segment }
 {
-    match joint(tables, j) {
-        Some(x) => x.segment == segment || is_segment(x.beyond, segment),
-        None => segment == 0,
-    }
+    joint(tables, j).map_or(segment == 0, |x| {
+        x.segment == segment || is_segment(x.beyond, segment)
+    })
 }
 
 // Whether the joint is one of the segment's.
@@ -51,36 +41,28 @@ pub fn touches(tables: &Tables, j: usize, segment: usize) -> bool
 pub fn across(tables: &Tables, j: usize, segment: usize) -> Beyond
     ensures { result ≡ across (station tables.now) j segment }
 {
-    match joint(tables, j) {
-        Some(x) => {
-            if x.segment == segment {
-                x.beyond
-            } else {
-                Beyond::Segment(x.segment)
-            }
+    joint(tables, j).map_or(Beyond::Segment(0), |x| {
+        if x.segment == segment {
+            x.beyond
+        } else {
+            Beyond::Segment(x.segment)
         }
-        None => Beyond::Segment(0),
-    }
+    })
 }
 
 // Whether a signal at the joint governs entering the segment.
 pub fn signalled(tables: &Tables, joint: usize, segment: usize) -> bool
     ensures { result ≡ signalled (station tables.now) joint segment }
 {
-    has(tables.signals.as_slice(), &Signal { joint, segment })
+    tables.signals.contains(&Signal { joint, segment })
 }
 
 // A signal by number; one that is lacking stands at 0.
 pub fn signal(tables: &Tables, n: usize) -> Signal
     ensures { result ≡ signal_at (station tables.now) n }
 {
-    let signals = tables.signals.as_slice();
-    if n < signals.len() {
-        signals[n]
-    } else {
-        Signal {
-            joint: 0,
-            segment: 0,
-        }
-    }
+    tables.signals.get(n).copied().unwrap_or(Signal {
+        joint: 0,
+        segment: 0,
+    })
 }

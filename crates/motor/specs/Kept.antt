@@ -1,22 +1,20 @@
 -- What a motor track keeps: how its motors run, what its signals show, and its trains.
-use Rattle.std.specs.Prelude.{Bool, ◌&&◌, List, length, vec_items, ◌==◌, nat_le}
+use Rattle.std.specs.Prelude.{Bool, List}
+use Rattle.track.specs.Trains.{Train}
 use Rattle.track.specs.declared.states.Aspect.{Aspect}
-use Rattle.track.specs.declared.states.Train.{Train}
-use Rattle.motor.specs.Motors.{runs}
-use Rattle.motor.specs.declared.kept.Motor.{Motor}
+use Rattle.waysides.specs.Waysides as waysides
+use Rattle.motor.specs.Motors.{Motor}
 use Rattle.motor.specs.declared.runs.Run.{Run}
 
-pub record Kept : Type 0 where
-  pub runs : List Run
-  pub signals : List Aspect
-  pub trains : List Train
+abbrev pub Kept : Type 0
+Kept = waysides.Parts Run
 
 abbrev pub keeping : List Run → List Aspect → List Train → Kept
-keeping rs ss ts = record { runs = rs; signals = ss; trains = ts }
+keeping rs ss ts = waysides.keeping rs ss ts
 
 abbrev pub kept : Motor → Kept
-kept t = keeping (runs t) (vec_items t.signals) (vec_items t.trains)
+kept t = waysides.kept t
 
 -- a track has at most 32 points, and 16 trains
 abbrev pub may_keep : Kept → Bool
-may_keep k = nat_le (length k.runs) 32 && length k.trains == 16
+may_keep k = waysides.may_keep k

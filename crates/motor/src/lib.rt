@@ -1,14 +1,9 @@
 // The motor track: a driven point is in motion for 8 settlings.
 #![tactic(auto)]
 
-mod calls;
-mod kept;
-mod makes;
-mod parts;
+mod law;
 mod runs;
-mod stands;
-mod writes;
 
-pub use kept::Motor;
-pub use makes::MOST_POINTS;
-pub use runs::Run;
+pub use law::runs_for_eight;
+pub use runs::{Motor, Run};
+pub use waysides::MOST_POINTS;

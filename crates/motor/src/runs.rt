@@ -1,9 +1,10 @@
 // How a point's motor runs.
-ghost use Rattle.std.specs.Prelude.{◌≡◌};
-ghost use Rattle.motor.specs.Motors.{a_run, state_of};
+ghost use Rattle.std.specs.Prelude.{refl};
+ghost use Rattle.motor.specs.Motors.{at_rest, on, started, state_of};
 
 use station::Position;
 use track::PointState;
+use waysides::{Motion, Wayside};
 
 // Where a point is driven to, and how many settlings are left until it lies there.
 #[derive(Clone, Copy)]
@@ -12,26 +13,54 @@ pub struct Run {
     pub left: u8,
 }
 
-// A throw takes so many settlings.
-pub(crate) const THROW: u8 = 8;
+pub type Motor = Wayside<Run>;
 
-impl Run {
-    pub(crate) fn state(self) -> PointState
-        ensures { result ≡ state_of self }
-    {
+// A throw takes so many settlings.
+const THROW: u8 = 8;
+
+impl Motion for Run {
+    ghost seen = { state_of };
+
+    ghost resting = { at_rest };
+
+    ghost started = { started };
+
+    ghost going_on = { on };
+
+    ghost lies = { λ x. refl };
+
+    ghost turns = { λ x. refl };
+
+    ghost keeps = { λ p. refl };
+
+    ghost copied = { λ p q e. e };
+
+    fn state(self) -> PointState {
         PointState {
             target: self.target,
             settled: self.left == 0,
         }
     }
-}
 
-// A motor that starts.
-pub(crate) fn started(target: Position) -> Run
-    ensures { result ≡ a_run target 8 }
-{
-    Run {
-        target,
-        left: THROW,
+    // This and `start` differ in a number that says all there is to them.
+    fn at_rest(position: Position) -> Run {
+        Run {
+            target: position,
+            left: 0,
+        }
+    }
+
+    fn start(to: Position) -> Run {
+        Run {
+            target: to,
+            left: THROW,
+        }
+    }
+
+    fn go_on(self) -> Run {
+        Run {
+            target: self.target,
+            left: self.left.saturating_sub(1),
+        }
     }
 }

@@ -1,10 +1,10 @@
 -- The numbers of things: their places among the rows that declare them.
-use Rattle.std.specs.Prelude.{ℕ, ◌+◌, ◌*◌, Bool, cond, ◌||◌, List, [], map, vec_items, nat_le}
+use Rattle.std.specs.Prelude.{ℕ, ◌+◌, ◌*◌, Bool, cond, ◌||◌, List, [], nat_le}
 use Rattle.forms.specs.Things.{Spot, Thing, segment, point, route, zone, subroute}
 use Rattle.rows.specs.declared.filters.Kind.TheVariants as kind
 use Rattle.rows.specs.Rows.{Row}
 use Rattle.naming.specs.declared.index.Index as index_type
-use Rattle.naming.specs.Keys.{Names, names, keys_of, place, declared}
+use Rattle.naming.specs.Keys.{Names, names_of, keys_of, place, declared}
 
 pub record Index : Type 0 where
   pub segments : List Names
@@ -17,12 +17,12 @@ pub record Index : Type 0 where
 abbrev pub indexed : index_type.Index → Index
 indexed x =
     record {
-      segments = map names (vec_items x.segments);
-      joints = map names (vec_items x.joints);
-      points = map names (vec_items x.points);
-      routes = map names (vec_items x.routes);
-      zones = map names (vec_items x.zones);
-      ways = map names (vec_items x.ways);
+      segments = names_of x.segments;
+      joints = names_of x.joints;
+      points = names_of x.points;
+      routes = names_of x.routes;
+      zones = names_of x.zones;
+      ways = names_of x.ways;
     }
 
 abbrev pub index_of : List (Row Spot) → Index

@@ -1,61 +1,59 @@
-// The names of the rows of one kind.
-ghost use Rattle.std.specs.Prelude.{◌≡◌, ◌≤◌, List, map, length, IfOk};
-ghost use Rattle.std.specs.Option.{option_map};
+// The keys of the rows of one kind.
+ghost use Rattle.std.specs.Prelude.{◌≡◌, ◌≤◌, cond, [], map, vec_len, IfOk};
+ghost use Rattle.forms.specs.Things.{spot};
 ghost use Rattle.rows.specs.Rows.{placed_row};
-ghost use Rattle.naming.specs.Keys.{names, key_in, keys_of, is_key, place};
+ghost use Rattle.naming.specs.Keys.{names_of, keys_of, place, declared};
 
-use forms::is_text;
-use rows::{Kind, Row};
+use forms::Name;
+use rows::{Key, Kind, Row};
 use std::alloc::{AllocError, Global};
 
-// A row's name, or its two names.
-#[derive(Clone, Copy)]
-pub struct Key<'a> {
-    pub first: &'a [u8],
-    pub second: &'a [u8],
+// In the order of the rows. A list and no map: the number of a thing is the place of its key.
+#[derive(Drop)]
+pub struct Keys<'a> {
+    pub list: Vec<Key<'a>>,
 }
 
-fn key_of<'a>(row: &Row<'a>, kind: Kind) -> Option<Key<'a>>
-    ensures { option_map names result ≡ key_in kind (placed_row row.now) }
-{
-    if row.is_of(kind) {
-        Some(Key {
-            first: row.first(),
-            second: row.second(),
-        })
-    } else {
-        None
+impl<'a> Keys<'a> {
+    pub(crate) fn of(rows: &[Row<'a>], kind: Kind, heap: Global) -> Result<Keys<'a>, AllocError>
+        ensures { IfOk result (λ ks. names_of ks ≡ keys_of kind (map placed_row rows.now)) }
+    {
+        let list = rows
+            .iter()
+            .filter(|r| r.is_of(kind))
+            .map(|r| r.key())
+            .collect(heap)?;
+        Ok(Keys { list })
     }
-}
 
-// The names of the rows of a kind, in order.
-pub fn keys_of<'a>(rows: &[Row<'a>], kind: Kind, heap: Global) -> Result<Vec<Key<'a>>, AllocError>
-    ensures { IfOk result (λ v. map names v.items ≡ keys_of kind (map placed_row rows.now)) }
-{
-    let mut keys = Vec::new(heap);
-    for row in rows {
-        if let Some(key) = key_of(row, kind) {
-            keys.push(key)?;
-        }
+    // The place of the first such key; as many as there are keys where there is none.
+    pub(crate) fn place(&self, key: Key) -> usize
+        ensures value { result ≡ place (names_of self.now) key.entry.first.now key.entry.second.now }
+        ensures bound { result ≤ vec_len self.now.list }
+    {
+        self.list
+            .iter()
+            .position(|k| *k == key)
+            .unwrap_or(self.list.len())
     }
-    Ok(keys)
-}
 
-fn is_key<'a>(key: Key<'a>, first: &[u8], second: &[u8]) -> bool
-    ensures { result ≡ is_key first.now second.now (names key.entry) }
-{
-    is_text(key.first, first) && is_text(key.second, second)
-}
-
-// The place of the first key with these names, or the number of keys where none has them.
-pub fn place<'a>(keys: &[Key<'a>], first: &[u8], second: &[u8]) -> usize
-    ensures value { result ≡ place (map names keys.now) first.now second.now }
-    ensures bound { result ≤ length keys.now }
-{
-    for (i, key) in keys.iter().enumerate() {
-        if is_key(*key, first, second) {
-            return i;
-        }
+    // The number of the thing with this name.
+    pub fn number(&self, name: Name<'a>) -> usize
+        ensures { result ≡ place (names_of self.now) (spot name.entry).1 [] }
+    {
+        self.place(Key::from(name))
     }
-    keys.len()
+
+    pub(crate) fn has(&self, key: Key) -> bool
+        ensures { result ≡ declared (names_of self.now) key.entry.first.now key.entry.second.now }
+    {
+        self.list.contains(&key)
+    }
+
+    // The offset of a name that no key has.
+    pub(crate) fn unknown(&self, name: Name<'a>) -> Option<usize>
+        ensures { result ≡ cond (declared (names_of self.now) (spot name.entry).1 []) None (Some (spot name.entry).0) }
+    {
+        (!self.has(Key::from(name))).then_some(name.at)
+    }
 }

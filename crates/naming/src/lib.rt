@@ -7,5 +7,6 @@ mod missing;
 mod unknown;
 
 pub use index::Index;
+pub use keys::Keys;
 pub use missing::incomplete;
 pub use unknown::first_unknown;

@@ -1,68 +1,33 @@
 // Names that nothing declares.
-ghost use Rattle.std.specs.Prelude.{◌≡◌, not, map};
+ghost use Rattle.std.specs.Prelude.{◌≡◌, map};
 ghost use Rattle.forms.specs.Things.{spot, placed};
 ghost use Rattle.rows.specs.Rows.{placed_pair, placed_far, placed_row};
-ghost use Rattle.naming.specs.Keys.{names, declared};
-ghost use Rattle.naming.specs.Index.{indexed, is_declared};
-ghost use Rattle.naming.specs.Unknown.{thing_at, unknown_thing, unknown_joint, unknown_far, unknown_in, unknown_in_row, first_unknown};
+ghost use Rattle.naming.specs.Index.{indexed};
+ghost use Rattle.naming.specs.Unknown.{unknown_thing, unknown_far, unknown_in, unknown_in_row, first_unknown};
+ghost use Rattle.forms.specs.Things as thing;
 
 use crate::index::Index;
-use crate::keys::{Key, place};
 use forms::{Name, Thing};
-use rows::{Far, Pair, Row};
-
-fn is_declared<'a>(keys: &[Key<'a>], first: &[u8], second: &[u8]) -> bool
-    ensures { result ≡ declared (map names keys.now) first.now second.now }
-{
-    place(keys, first, second) < keys.len()
-}
-
-// The offset of the word that has the thing's name.
-fn thing_at<'a>(thing: Thing<'a>) -> usize
-    ensures { result ≡ thing_at (placed thing.entry) }
-{
-    match thing {
-        Thing::Segment(name) => name.at,
-        Thing::Point(name) => name.at,
-        Thing::Route(name) => name.at,
-        Thing::Zone(name) => name.at,
-        Thing::Subroute(from, _) => from.at,
-    }
-}
+use rows::{Far, Key, Pair, Row};
 
 impl<'a> Index<'a> {
-    fn knows(&self, thing: Thing<'a>) -> bool
-        ensures { result ≡ is_declared (indexed self.now) (placed thing.entry) }
+    // A subroute is known where a way joins its joints in either order. Two names and no pair, since both orders are asked.
+    fn unknown_subroute(&self, from: Name<'a>, to: Name<'a>) -> Option<usize>
+        ensures { result ≡ unknown_thing (indexed self.now) (thing.subroute (spot from.entry) (spot to.entry)) }
     {
-        match thing {
-            Thing::Segment(name) => is_declared(self.segments.as_slice(), name.octets, b""),
-            Thing::Point(name) => is_declared(self.points.as_slice(), name.octets, b""),
-            Thing::Route(name) => is_declared(self.routes.as_slice(), name.octets, b""),
-            Thing::Zone(name) => is_declared(self.zones.as_slice(), name.octets, b""),
-            Thing::Subroute(from, to) => {
-                is_declared(self.ways.as_slice(), from.octets, to.octets)
-                    || is_declared(self.ways.as_slice(), to.octets, from.octets)
-            }
-        }
+        let known = self.ways.has(Key::from((from, to))) || self.ways.has(Key::from((to, from)));
+        (!known).then_some(from.at)
     }
 
     fn unknown_thing(&self, thing: Thing<'a>) -> Option<usize>
         ensures { result ≡ unknown_thing (indexed self.now) (placed thing.entry) }
     {
-        if self.knows(thing) {
-            None
-        } else {
-            Some(thing_at(thing))
-        }
-    }
-
-    fn unknown_joint(&self, name: Name<'a>) -> Option<usize>
-        ensures { result ≡ unknown_joint (indexed self.now) (spot name.entry) }
-    {
-        if is_declared(self.joints.as_slice(), name.octets, b"") {
-            None
-        } else {
-            Some(name.at)
+        match thing {
+            Thing::Segment(name) => self.segments.unknown(name),
+            Thing::Point(name) => self.points.unknown(name),
+            Thing::Route(name) => self.routes.unknown(name),
+            Thing::Zone(name) => self.zones.unknown(name),
+            Thing::Subroute(from, to) => self.unknown_subroute(from, to),
         }
     }
 
@@ -70,21 +35,15 @@ impl<'a> Index<'a> {
         ensures { result ≡ unknown_far (indexed self.now) (placed_far far.entry) }
     {
         match far {
-            Far::Segment(name) => self.unknown_thing(Thing::Segment(name)),
-            Far::Outside => None,
-            Far::BufferStop => None,
+            Far::Segment(name) => self.segments.unknown(name),
+            _ => None,
         }
     }
 
     fn unknown_in(&self, pairs: &[Pair<'a>]) -> Option<usize>
         ensures { result ≡ unknown_in (indexed self.now) (map placed_pair pairs.now) }
     {
-        for pair in pairs {
-            if let Some(at) = self.unknown_thing(pair.thing) {
-                return Some(at);
-            }
-        }
-        None
+        pairs.iter().find_map(|p| self.unknown_thing(p.thing))
     }
 
     fn unknown_in_row(&self, row: &Row<'a>) -> Option<usize>
@@ -92,29 +51,31 @@ impl<'a> Index<'a> {
     {
         match row {
             Row::Segment(_) => None,
-            Row::Joint(j) => self
-                .unknown_thing(Thing::Segment(j.segment))
-                .or(self.unknown_far(j.far)),
-            Row::Point(p) => self.unknown_thing(Thing::Segment(p.home)),
+            Row::Joint(j) => self.segments.unknown(j.segment).or(self.unknown_far(j.far)),
+            Row::Point(p) => self.segments.unknown(p.home),
             Row::Way(w) => self
-                .unknown_thing(Thing::Segment(w.segment))
-                .or(self.unknown_joint(w.from))
-                .or(self.unknown_joint(w.to))
+                .segments
+                .unknown(w.segment)
+                .or(self.joints.unknown(w.from))
+                .or(self.joints.unknown(w.to))
                 .or(self.unknown_in(w.settings.as_slice())),
             Row::Signal(s) => self
-                .unknown_joint(s.joint)
-                .or(self.unknown_thing(Thing::Segment(s.segment))),
+                .joints
+                .unknown(s.joint)
+                .or(self.segments.unknown(s.segment)),
             Row::Request(q) => self
                 .unknown_in(q.tests.as_slice())
                 .or(self.unknown_in(q.actions.as_slice())),
             Row::Activation(a) => self
-                .unknown_thing(Thing::Route(a.route))
+                .routes
+                .unknown(a.route)
                 .or(self.unknown_in(a.tests.as_slice())),
             Row::Move(m) => self
-                .unknown_thing(Thing::Point(m.point))
+                .points
+                .unknown(m.point)
                 .or(self.unknown_in(m.tests.as_slice())),
             Row::Release(u) => self
-                .unknown_thing(Thing::Subroute(u.from, u.to))
+                .unknown_subroute(u.from, u.to)
                 .or(self.unknown_in(u.tests.as_slice())),
             Row::Zone(z) => self.unknown_in(z.tests.as_slice()),
         }
@@ -125,10 +86,5 @@ impl<'a> Index<'a> {
 pub fn first_unknown<'a>(index: &Index<'a>, rows: &[Row<'a>]) -> Option<usize>
     ensures { result ≡ first_unknown (indexed index.now) (map placed_row rows.now) }
 {
-    for row in rows {
-        if let Some(at) = index.unknown_in_row(row) {
-            return Some(at);
-        }
-    }
-    None
+    rows.iter().find_map(|r| index.unknown_in_row(r))
 }

@@ -3,14 +3,11 @@ use Rattle.std.proofs.Common.{◌≡◌, ℕ, ◌+◌, ◌<◌, Bool, true, fals
 use Rattle.std.proofs.lemmas.Bool.{cond-true, le-leb}
 use Rattle.std.proofs.lemmas.Bool.Decides.{nat_tests}
 use Rattle.std.proofs.lemmas.List.Elements.{All-nil, All-cons, All-head, All-tail}
-use Rattle.track.specs.declared.states.Front.{Front}
-use Rattle.track.specs.declared.states.Front.TheVariants.{In, Outside}
-use Rattle.track.specs.declared.states.Train.{Train}
-use Rattle.track.specs.declared.states.Train.TheVariants.{Absent, Present}
 use Rattle.octets.specs.Each.{both, each}
 use Rattle.octets.specs.Laws.{PlaceWritable, PointsWritten, TrainWritable, TrainsWritten, Writes}
 use Rattle.octets.specs.Writes.{four, motion_octet, place_octets, rest_octet, run_octet, train_octets}
 use Rattle.octets.proofs.Inverses.{parted}
+use Rattle.track.specs.Trains.{Train}
 
 pub points_written : PointsWritten
 points_written = record {
@@ -28,32 +25,32 @@ four_only a b c d q e =
     let z : d < 256 = grind (arith, nat_tests) in
     (x, y, z)
 
-place_there : (f : Front) (j : ℕ) (r : Option ℕ) (b : Bool) → PlaceWritable f j r b → (q : List ℕ) × (place_octets f j r b ≡ Some q)
-place_there (In t) j None false h = (1 ∷ t ∷ j ∷ 0 ∷ [], four_there 1 t j 0 h.0 h.1 (omega arith))
-place_there (In t) j None true h = (4 ∷ t ∷ j ∷ 0 ∷ [], four_there 4 t j 0 h.0 h.1 (omega arith))
-place_there (In t) j (Some u) false h = (2 ∷ t ∷ j ∷ u ∷ [], four_there 2 t j u h.0 h.1 h.2)
-place_there (In t) j (Some u) true h = absurd (let e = h.3 in grind arith)
-place_there Outside j None b h = absurd h
-place_there Outside j (Some u) false h = (3 ∷ 0 ∷ j ∷ u ∷ [], four_there 3 0 j u (omega arith) h.0 h.1)
-place_there Outside j (Some u) true h = absurd (let e = h.2 in grind arith)
+place_there : (f : Option ℕ) (j : ℕ) (r : Option ℕ) (b : Bool) → PlaceWritable f j r b → (q : List ℕ) × (place_octets f j r b ≡ Some q)
+place_there (Some t) j None false h = (1 ∷ t ∷ j ∷ 0 ∷ [], four_there 1 t j 0 h.0 h.1 (omega arith))
+place_there (Some t) j None true h = (4 ∷ t ∷ j ∷ 0 ∷ [], four_there 4 t j 0 h.0 h.1 (omega arith))
+place_there (Some t) j (Some u) false h = (2 ∷ t ∷ j ∷ u ∷ [], four_there 2 t j u h.0 h.1 h.2)
+place_there (Some t) j (Some u) true h = absurd (let e = h.3 in grind arith)
+place_there None j None b h = absurd h
+place_there None j (Some u) false h = (3 ∷ 0 ∷ j ∷ u ∷ [], four_there 3 0 j u (omega arith) h.0 h.1)
+place_there None j (Some u) true h = absurd (let e = h.2 in grind arith)
 
-place_only : (f : Front) (j : ℕ) (r : Option ℕ) (b : Bool) (q : List ℕ) → place_octets f j r b ≡ Some q → PlaceWritable f j r b
-place_only (In t) j None false q e = let w = four_only 1 t j 0 q e in (w.0, w.1)
-place_only (In t) j None true q e = let w = four_only 4 t j 0 q e in (w.0, w.1)
-place_only (In t) j (Some u) false q e = let w = four_only 2 t j u q e in (w.0, w.1, w.2, refl)
-place_only (In t) j (Some u) true q e = absurd (grind arith)
-place_only Outside j None false q e = absurd (grind arith)
-place_only Outside j None true q e = absurd (grind arith)
-place_only Outside j (Some u) false q e = let w = four_only 3 0 j u q e in (w.1, w.2, refl)
-place_only Outside j (Some u) true q e = absurd (grind arith)
+place_only : (f : Option ℕ) (j : ℕ) (r : Option ℕ) (b : Bool) (q : List ℕ) → place_octets f j r b ≡ Some q → PlaceWritable f j r b
+place_only (Some t) j None false q e = let w = four_only 1 t j 0 q e in (w.0, w.1)
+place_only (Some t) j None true q e = let w = four_only 4 t j 0 q e in (w.0, w.1)
+place_only (Some t) j (Some u) false q e = let w = four_only 2 t j u q e in (w.0, w.1, w.2, refl)
+place_only (Some t) j (Some u) true q e = absurd (grind arith)
+place_only None j None false q e = absurd (grind arith)
+place_only None j None true q e = absurd (grind arith)
+place_only None j (Some u) false q e = let w = four_only 3 0 j u q e in (w.1, w.2, refl)
+place_only None j (Some u) true q e = absurd (grind arith)
 
 train_there : (t : Train) → TrainWritable t → (q : List ℕ) × (train_octets t ≡ Some q)
-train_there Absent h = (0 ∷ 0 ∷ 0 ∷ 0 ∷ [], refl)
-train_there (Present p) h = place_there p.front p.joint p.rear p.derailed h
+train_there None h = (0 ∷ 0 ∷ 0 ∷ 0 ∷ [], refl)
+train_there (Some p) h = place_there p.front p.joint p.rear p.derailed h
 
 train_only : (q : List ℕ) (t : Train) → train_octets t ≡ Some q → TrainWritable t
-train_only q Absent e = tt
-train_only q (Present p) e = place_only p.front p.joint p.rear p.derailed q e
+train_only q None e = tt
+train_only q (Some p) e = place_only p.front p.joint p.rear p.derailed q e
 
 pub trains_written : TrainsWritten
 trains_written = record { there = train_there; only = train_only }

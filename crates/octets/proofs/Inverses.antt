@@ -1,5 +1,5 @@
 -- Where things are read from what stands for them, and from nothing else, so are lists of them.
-use Rattle.std.proofs.Common.{◌≡◌, suc, List, [], ◌∷◌, length, Some, None, All, Option, sym, refl, ap, ◌∙◌, subst, arith}
+use Rattle.std.proofs.Common.{◌≡◌, suc, List, [], ◌∷◌, length, map, Some, None, All, Option, sym, refl, ap, ◌∙◌, subst, arith}
 use Rattle.std.proofs.lemmas.List.Elements.{All-nil, All-cons, All-head, All-tail}
 use Rattle.octets.specs.Each.{both, each}
 use Rattle.octets.specs.Laws.{Any, Means}
@@ -16,6 +16,12 @@ each_long f [] ys e = let nil : [] ≡ ys = cc in sym (ap length nil)
 each_long f (x ∷ xs) ys e =
     let p = parted (f x) (each f xs) ys e in
     sym (ap length p.4) ∙ ap suc (each_long f xs p.1 p.3)
+
+-- where every element has an answer, so has the list
+pub each_some : {X Y : Type 0} (f : X → Y) (xs : List X) → each (λ x. Some (f x)) xs ≡ Some (map f xs)
+unfolding each
+each_some f [] = refl
+each_some f (x ∷ xs) = ap (both (Some (f x))) (each_some f xs)
 
 pub all_any : {Y : Type 0} (ys : List Y) → All Any ys
 all_any ys = λ k d l. tt

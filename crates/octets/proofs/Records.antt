@@ -5,11 +5,7 @@ use Rattle.std.proofs.lemmas.Bool.Decides.{nat_tests}
 use Rattle.motor.specs.declared.runs.Run.{Run}
 use Rattle.track.specs.declared.states.Aspect.{Aspect}
 use Rattle.track.specs.declared.states.Aspect.TheVariants.{Stop, Proceed}
-use Rattle.track.specs.Trains.{present}
-use Rattle.track.specs.declared.states.Front.{Front}
-use Rattle.track.specs.declared.states.Front.TheVariants.{In, Outside}
-use Rattle.track.specs.declared.states.Train.{Train}
-use Rattle.track.specs.declared.states.Train.TheVariants.{Absent, Present}
+use Rattle.track.specs.Trains.{present, Train}
 use Rattle.octets.specs.Laws.{PointsLaw, SignalsLaw, TrainDeclared, TrainsLaw}
 use Rattle.octets.specs.Reads.{aspect_of, four_of, run_of, train_of}
 use Rattle.octets.specs.Writes.{aspect_octet, four, octet, place_octets, run_octet, train_octets}
@@ -64,21 +60,21 @@ module _ (segments joints : ℕ) where
       let same : a ∷ b ∷ c ∷ d ∷ [] ≡ q = grind (arith, nat_tests) in
       subst (λ l. train_of segments joints l ≡ Some t) same (h bs cs ds)
 
-  place_again : (f : Front) (j : ℕ) (r : Option ℕ) (b : Bool) (q : List ℕ) → TrainDeclared segments joints (present f j r b) → place_octets f j r b ≡ Some q → train_of segments joints q ≡ Some (present f j r b)
-  place_again (In t) j None false q m e = again 1 t j 0 (present (In t) j None false) q e (λ x y _. grind (arith, nat_tests))
-  place_again (In t) j None true q m e = again 4 t j 0 (present (In t) j None true) q e (λ x y _. grind (arith, nat_tests))
-  place_again (In t) j (Some u) false q m e = again 2 t j u (present (In t) j (Some u) false) q e (λ x y z. grind (arith, nat_tests))
-  place_again (In t) j (Some u) true q m e = grind arith
-  place_again Outside j None false q m e = grind arith
-  place_again Outside j None true q m e = grind arith
-  place_again Outside j (Some u) false q m e = again 3 0 j u (present Outside j (Some u) false) q e (λ _ y z. grind (arith, nat_tests))
-  place_again Outside j (Some u) true q m e = grind arith
+  place_again : (f : Option ℕ) (j : ℕ) (r : Option ℕ) (b : Bool) (q : List ℕ) → TrainDeclared segments joints (present f j r b) → place_octets f j r b ≡ Some q → train_of segments joints q ≡ Some (present f j r b)
+  place_again (Some t) j None false q m e = again 1 t j 0 (present (Some t) j None false) q e (λ x y _. grind (arith, nat_tests))
+  place_again (Some t) j None true q m e = again 4 t j 0 (present (Some t) j None true) q e (λ x y _. grind (arith, nat_tests))
+  place_again (Some t) j (Some u) false q m e = again 2 t j u (present (Some t) j (Some u) false) q e (λ x y z. grind (arith, nat_tests))
+  place_again (Some t) j (Some u) true q m e = grind arith
+  place_again None j None false q m e = grind arith
+  place_again None j None true q m e = grind arith
+  place_again None j (Some u) false q m e = again 3 0 j u (present None j (Some u) false) q e (λ _ y z. grind (arith, nat_tests))
+  place_again None j (Some u) true q m e = grind arith
 
   train_again : (q : List ℕ) (t : Train) → TrainDeclared segments joints t → train_octets t ≡ Some q → train_of segments joints q ≡ Some t
-  train_again q Absent m e =
+  train_again q None m e =
       let same : 0 ∷ 0 ∷ 0 ∷ 0 ∷ [] ≡ q = cc in
-      subst (λ l. train_of segments joints l ≡ Some Absent) same refl
-  train_again q (Present p) m e = place_again p.front p.joint p.rear p.derailed q m e
+      subst (λ l. train_of segments joints l ≡ Some None) same refl
+  train_again q (Some p) m e = place_again p.front p.joint p.rear p.derailed q m e
 
   -- octets that mean a train are four
   of_four : (q : List ℕ) (t : Train) → train_of segments joints q ≡ Some t → (eqb (length q) 4 ≡ true) × (four_of segments joints (get_or q 0 0) (get_or q 1 0) (get_or q 2 0) (get_or q 3 0) ≡ Some t)
@@ -96,17 +92,17 @@ trains_law segments joints = record {
 four_made : (a b c d : ℕ) (q : List ℕ) → four a b c d ≡ Some q → length q ≡ 4
 four_made a b c d q e = let same : a ∷ b ∷ c ∷ d ∷ [] ≡ q = grind (arith, nat_tests) in sym (ap length same)
 
-place_long : (f : Front) (j : ℕ) (r : Option ℕ) (b : Bool) (q : List ℕ) → place_octets f j r b ≡ Some q → length q ≡ 4
-place_long (In t) j None false q e = four_made 1 t j 0 q e
-place_long (In t) j None true q e = four_made 4 t j 0 q e
-place_long (In t) j (Some u) false q e = four_made 2 t j u q e
-place_long (In t) j (Some u) true q e = grind arith
-place_long Outside j None false q e = grind arith
-place_long Outside j None true q e = grind arith
-place_long Outside j (Some u) false q e = four_made 3 0 j u q e
-place_long Outside j (Some u) true q e = grind arith
+place_long : (f : Option ℕ) (j : ℕ) (r : Option ℕ) (b : Bool) (q : List ℕ) → place_octets f j r b ≡ Some q → length q ≡ 4
+place_long (Some t) j None false q e = four_made 1 t j 0 q e
+place_long (Some t) j None true q e = four_made 4 t j 0 q e
+place_long (Some t) j (Some u) false q e = four_made 2 t j u q e
+place_long (Some t) j (Some u) true q e = grind arith
+place_long None j None false q e = grind arith
+place_long None j None true q e = grind arith
+place_long None j (Some u) false q e = four_made 3 0 j u q e
+place_long None j (Some u) true q e = grind arith
 
 -- a train has four octets
 pub train_long : (t : Train) (q : List ℕ) → train_octets t ≡ Some q → length q ≡ 4
-train_long Absent q e = let same : 0 ∷ 0 ∷ 0 ∷ 0 ∷ [] ≡ q = cc in sym (ap length same)
-train_long (Present p) q e = place_long p.front p.joint p.rear p.derailed q e
+train_long None q e = let same : 0 ∷ 0 ∷ 0 ∷ 0 ∷ [] ≡ q = cc in sym (ap length same)
+train_long (Some p) q e = place_long p.front p.joint p.rear p.derailed q e

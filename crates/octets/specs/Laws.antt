@@ -1,12 +1,9 @@
 -- Reading and writing are inverse to each other, record by record.
 use Rattle.std.specs.Prelude.{◌≡◌, ℕ, ◌<◌, ◌≤◌, Bool, false, Some, None, Option}
 use Rattle.motor.specs.declared.runs.Run.{Run}
-use Rattle.track.specs.declared.states.Front.{Front}
-use Rattle.track.specs.declared.states.Front.TheVariants.{In, Outside}
-use Rattle.track.specs.declared.states.Train.{Train}
-use Rattle.track.specs.declared.states.Train.TheVariants.{Absent, Present}
 use Rattle.octets.specs.Reads.{aspect_of, run_of, train_of}
 use Rattle.octets.specs.Writes.{aspect_octet, run_octet, train_octets}
+use Rattle.track.specs.Trains.{Train}
 
 -- x means y exactly when y is one of those meant and is written x
 pub record Means {X Y : Type 0} (read : X → Option Y) (write : Y → Option X) (meant : Y → Type 0) : Type 0 where
@@ -19,17 +16,17 @@ abbrev pub Any : {Y : Type 0} → Y → Type 0
 Any y = Unit {0}
 
 -- the numbers of a train are those of segments and joints
-abbrev pub FrontDeclared : ℕ → Front → Type 0
-FrontDeclared segments (In t) = t < segments
-FrontDeclared segments Outside = Unit {0}
+abbrev pub FrontDeclared : ℕ → Option ℕ → Type 0
+FrontDeclared segments (Some t) = t < segments
+FrontDeclared segments None = Unit {0}
 
 abbrev pub RearDeclared : ℕ → Option ℕ → Type 0
 RearDeclared segments None = Unit {0}
 RearDeclared segments (Some u) = u < segments
 
 abbrev pub TrainDeclared : ℕ → ℕ → Train → Type 0
-TrainDeclared segments joints Absent = Unit {0}
-TrainDeclared segments joints (Present p) = FrontDeclared segments p.front × (p.joint < joints) × RearDeclared segments p.rear
+TrainDeclared segments joints None = Unit {0}
+TrainDeclared segments joints (Some p) = FrontDeclared segments p.front × (p.joint < joints) × RearDeclared segments p.rear
 
 -- what can be written: those of which this holds, and no others
 pub record Writes {X Y : Type 0} (write : Y → Option X) (able : Y → Type 0) : Type 0 where
@@ -40,15 +37,15 @@ abbrev pub PointWritable : Run → Type 0
 PointWritable p = p.left ≤ 8
 
 -- a train that is present holds a segment and is derailed only where it is wholly in one, and its numbers have octets
-abbrev pub PlaceWritable : Front → ℕ → Option ℕ → Bool → Type 0
-PlaceWritable (In t) j None derailed = (t < 256) × (j < 256)
-PlaceWritable (In t) j (Some u) derailed = (t < 256) × (j < 256) × (u < 256) × (derailed ≡ false)
-PlaceWritable Outside j None derailed = ⊥
-PlaceWritable Outside j (Some u) derailed = (j < 256) × (u < 256) × (derailed ≡ false)
+abbrev pub PlaceWritable : Option ℕ → ℕ → Option ℕ → Bool → Type 0
+PlaceWritable (Some t) j None derailed = (t < 256) × (j < 256)
+PlaceWritable (Some t) j (Some u) derailed = (t < 256) × (j < 256) × (u < 256) × (derailed ≡ false)
+PlaceWritable None j None derailed = ⊥
+PlaceWritable None j (Some u) derailed = (j < 256) × (u < 256) × (derailed ≡ false)
 
 abbrev pub TrainWritable : Train → Type 0
-TrainWritable Absent = Unit {0}
-TrainWritable (Present p) = PlaceWritable p.front p.joint p.rear p.derailed
+TrainWritable None = Unit {0}
+TrainWritable (Some p) = PlaceWritable p.front p.joint p.rear p.derailed
 
 abbrev pub PointsLaw : Type 0
 PointsLaw = Means run_of run_octet Any

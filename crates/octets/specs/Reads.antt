@@ -3,12 +3,9 @@ use Rattle.std.specs.Prelude.{ℕ, ◌-◌, Bool, true, cond, ◌&&◌, List, le
 use Rattle.motor.specs.Motors.{a_run}
 use Rattle.motor.specs.declared.runs.Run.{Run}
 use Rattle.station.specs.declared.tests.Position.TheVariants.{Normal, Reverse}
-use Rattle.track.specs.Trains.{come_in, gone_on, present}
+use Rattle.track.specs.Trains.{come_in, gone_on, present, Train}
 use Rattle.track.specs.declared.states.Aspect.{Aspect}
 use Rattle.track.specs.declared.states.Aspect.TheVariants.{Stop, Proceed}
-use Rattle.track.specs.declared.states.Front.TheVariants.{In, Outside}
-use Rattle.track.specs.declared.states.Train.{Train}
-use Rattle.track.specs.declared.states.Train.TheVariants.{Absent}
 use Rattle.octets.specs.Writes.{octet}
 
 -- an octet of a point in motion: 1 to 8 settlings left are added to the base
@@ -31,7 +28,7 @@ declared count n = nat_lt n count && octet n
 
 -- state 0: nothing else
 abbrev pub absent_of : ℕ → ℕ → ℕ → Option Train
-absent_of front joint rear = cond (front == 0 && (joint == 0 && rear == 0)) (Some Absent) None
+absent_of front joint rear = cond (front == 0 && (joint == 0 && rear == 0)) (Some None) None
 
 -- the others, at a station with so many segments and joints; state 1: in one segment
 abbrev pub one_of : ℕ → ℕ → ℕ → ℕ → ℕ → Option Train
@@ -41,17 +38,17 @@ one_of segments joints front joint rear =
 -- state 2: in two
 abbrev pub two_of : ℕ → ℕ → ℕ → ℕ → ℕ → Option Train
 two_of segments joints front joint rear =
-    cond (declared segments front && (declared joints joint && declared segments rear)) (Some (gone_on (In front) joint rear)) None
+    cond (declared segments front && (declared joints joint && declared segments rear)) (Some (gone_on (Some front) joint rear)) None
 
 -- state 3: the front outside
 abbrev pub outside_of : ℕ → ℕ → ℕ → ℕ → ℕ → Option Train
 outside_of segments joints front joint rear =
-    cond (front == 0 && (declared joints joint && declared segments rear)) (Some (gone_on Outside joint rear)) None
+    cond (front == 0 && (declared joints joint && declared segments rear)) (Some (gone_on None joint rear)) None
 
 -- state 4: derailed in one
 abbrev pub derailed_of : ℕ → ℕ → ℕ → ℕ → ℕ → Option Train
 derailed_of segments joints front joint rear =
-    cond (declared segments front && (declared joints joint && rear == 0)) (Some (present (In front) joint None true)) None
+    cond (declared segments front && (declared joints joint && rear == 0)) (Some (present (Some front) joint None true)) None
 
 abbrev pub four_of : ℕ → ℕ → ℕ → ℕ → ℕ → ℕ → Option Train
 four_of segments joints state front joint rear =

@@ -5,10 +5,7 @@ use Rattle.station.specs.declared.tests.Position.{Position}
 use Rattle.station.specs.declared.tests.Position.TheVariants.{Normal, Reverse}
 use Rattle.track.specs.declared.states.Aspect.{Aspect}
 use Rattle.track.specs.declared.states.Aspect.TheVariants.{Stop, Proceed}
-use Rattle.track.specs.declared.states.Front.{Front}
-use Rattle.track.specs.declared.states.Front.TheVariants.{In, Outside}
-use Rattle.track.specs.declared.states.Train.{Train}
-use Rattle.track.specs.declared.states.Train.TheVariants.{Absent, Present}
+use Rattle.track.specs.Trains.{Train}
 
 -- a settled point
 abbrev pub rest_octet : Position → ℕ
@@ -37,16 +34,16 @@ abbrev pub four : ℕ → ℕ → ℕ → ℕ → Option (List ℕ)
 four state front joint rear = cond (octet front && (octet joint && octet rear)) (Some (state ∷ front ∷ joint ∷ rear ∷ [])) None
 
 -- a train that is present: 1 in one segment, 2 in two, 3 with its front outside, 4 derailed in one
-abbrev pub place_octets : Front → ℕ → Option ℕ → Bool → Option (List ℕ)
-place_octets (In t) j None false = four 1 t j 0
-place_octets (In t) j None true = four 4 t j 0
-place_octets (In t) j (Some u) false = four 2 t j u
-place_octets (In t) j (Some u) true = None
-place_octets Outside j None false = None
-place_octets Outside j None true = None
-place_octets Outside j (Some u) false = four 3 0 j u
-place_octets Outside j (Some u) true = None
+abbrev pub place_octets : Option ℕ → ℕ → Option ℕ → Bool → Option (List ℕ)
+place_octets (Some t) j None false = four 1 t j 0
+place_octets (Some t) j None true = four 4 t j 0
+place_octets (Some t) j (Some u) false = four 2 t j u
+place_octets (Some t) j (Some u) true = None
+place_octets None j None false = None
+place_octets None j None true = None
+place_octets None j (Some u) false = four 3 0 j u
+place_octets None j (Some u) true = None
 
 abbrev pub train_octets : Train → Option (List ℕ)
-train_octets Absent = Some (0 ∷ 0 ∷ 0 ∷ 0 ∷ [])
-train_octets (Present p) = place_octets p.front p.joint p.rear p.derailed
+train_octets None = Some (0 ∷ 0 ∷ 0 ∷ 0 ∷ [])
+train_octets (Some p) = place_octets p.front p.joint p.rear p.derailed

@@ -4,14 +4,11 @@ ghost use Rattle.passing.specs.Locks.{has_slots, is_declared, release_row};
 ghost use Rattle.station.specs.Station.{station};
 
 use lookups::{release_tests, route_count, subroute_count, way_count, zone_tests};
+use states::{ROUTES, SUBROUTES, ZONES};
 use station::{Lock, ReleaseTest, Tables};
 
-// A station that is read from a text has no more.
-const MOST_ROUTES: usize = 48;
-
-const MOST_WAYS: usize = 96;
-
-const MOST_ZONES: usize = 32;
+// Two subroutes for each way.
+const WAYS: usize = SUBROUTES / 2;
 
 fn zone_count(tables: &Tables) -> usize
     ensures { result ≡ length (station tables.now).zones }
@@ -23,9 +20,7 @@ fn zone_count(tables: &Tables) -> usize
 pub fn has_slots(tables: &Tables) -> bool
     ensures { result ≡ has_slots (station tables.now) }
 {
-    route_count(tables) <= MOST_ROUTES
-        && way_count(tables) <= MOST_WAYS
-        && zone_count(tables) <= MOST_ZONES
+    route_count(tables) <= ROUTES && way_count(tables) <= WAYS && zone_count(tables) <= ZONES
 }
 
 // Whether the subroute or zone is in its table.

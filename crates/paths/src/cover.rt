@@ -1,86 +1,34 @@
 // When a zone covers a subroute, and which rows keep a subroute free.
-ghost use Rattle.std.specs.Prelude.{◌≡◌, true, if◌then◌else◌};
+ghost use Rattle.std.specs.Prelude.{◌≡◌};
 ghost use Rattle.station.specs.Station.{station};
-ghost use Rattle.station.specs.Paths.{uses, locks};
-ghost use Rattle.station.specs.Covers.{covers, guards, test_guards, request_guards, point_guards};
+ghost use Rattle.station.specs.Covers.{covers, guards, users_lock, request_guards, point_guards};
 
 use crate::users::{locks, uses};
-use alike::has;
-use firsts::{Claim, every_below, some_of};
 use lookups::{route_count, zone_tests};
 use station::{Lock, PointTest, ReleaseTest, RequestTest, Tables};
 
-// That a route which uses the subroute locks the zone.
-#[derive(Clone, Copy)]
-struct Locked<'a> {
-    tables: &'a Tables,
-    zone: usize,
-    subroute: usize,
-}
-
-impl<'a> Claim<usize> for Locked<'a> {
-    ghost holds = { λ s r. (if uses (station s.tables.now) r s.subroute then locks (station s.tables.now) r s.zone else true) };
-
-    fn holds(&self, r: usize) -> bool {
-        if uses(self.tables, r, self.subroute) {
-            locks(self.tables, r, self.zone)
-        } else {
-            true
-        }
-    }
+// Whether every route that uses the subroute locks the zone.
+fn users_lock(tables: &Tables, zone: usize, subroute: usize) -> bool
+    ensures { result ≡ users_lock (station tables.now) zone subroute }
+{
+    (0..route_count(tables)).all(|r| !uses(tables, r, subroute) || locks(tables, r, zone))
 }
 
 // Whether the zone's row tests the subroute free, and every route that uses it locks the zone.
 pub fn covers(tables: &Tables, zone: usize, subroute: usize) -> bool
     ensures { result ≡ covers (station tables.now) zone subroute }
 {
-    has(zone_tests(tables, zone), &ReleaseTest::Free(subroute))
-        && every_below(
-            &Locked {
-                tables,
-                zone,
-                subroute,
-            },
-            route_count(tables),
-        )
+    zone_tests(tables, zone).contains(&ReleaseTest::Free(subroute))
+        && users_lock(tables, zone, subroute)
 }
 
-// What keeps a subroute free.
-#[derive(Clone, Copy)]
-struct Guard<'a> {
-    tables: &'a Tables,
-    subroute: usize,
-}
-
-impl<'a> Guard<'a> {
-    // Whether the lock is the subroute's own, or a zone that covers it.
-    fn by(&self, lock: Lock) -> bool
-        ensures { result ≡ guards (station self.now.tables.now) self.now.subroute lock }
-    {
-        match lock {
-            Lock::Zone(z) => covers(self.tables, z, self.subroute),
-            Lock::Subroute(v) => v == self.subroute,
-        }
-    }
-}
-
-impl<'a> Claim<RequestTest> for Guard<'a> {
-    ghost holds = { λ s t. test_guards (station s.tables.now) s.subroute t };
-
-    fn holds(&self, test: RequestTest) -> bool {
-        match test {
-            RequestTest::Free(lock) => self.by(lock),
-            RequestTest::Unset(_) => false,
-            RequestTest::Movable(_, _) => false,
-        }
-    }
-}
-
-impl<'a> Claim<PointTest> for Guard<'a> {
-    ghost holds = { λ s t. guards (station s.tables.now) s.subroute t.free };
-
-    fn holds(&self, test: PointTest) -> bool {
-        self.by(test.free)
+// Whether the lock is the subroute's own, or a zone that covers it.
+fn guards(tables: &Tables, subroute: usize, lock: Lock) -> bool
+    ensures { result ≡ guards (station tables.now) subroute lock }
+{
+    match lock {
+        Lock::Zone(z) => covers(tables, z, subroute),
+        Lock::Subroute(v) => v == subroute,
     }
 }
 
@@ -88,12 +36,12 @@ impl<'a> Claim<PointTest> for Guard<'a> {
 pub fn request_guards(tables: &Tables, tests: &[RequestTest], subroute: usize) -> bool
     ensures { result ≡ request_guards (station tables.now) tests.now subroute }
 {
-    some_of(&Guard { tables, subroute }, tests)
+    tests.iter().any(|t| matches!(*t, RequestTest::Free(lock) if guards(tables, subroute, lock)))
 }
 
 // Whether the row of a point tests the subroute free, or a zone that covers it.
 pub fn point_guards(tables: &Tables, tests: &[PointTest], subroute: usize) -> bool
     ensures { result ≡ point_guards (station tables.now) tests.now subroute }
 {
-    some_of(&Guard { tables, subroute }, tests)
+    tests.iter().any(|t| guards(tables, subroute, t.free))
 }

@@ -5,4 +5,4 @@ mod builds;
 mod throws;
 
 pub use builds::{counted_delay, delayed_motor, delayed_twice};
-pub use throws::{throw_counted, throw_motor, throw_over, throw_twice};
+pub use throws::{meanings, throw_over};

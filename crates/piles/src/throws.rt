@@ -1,9 +1,9 @@
-// One function over every trackside, and three piles that it runs over.
+// One function over every trackside, and what the piles mean over which it runs.
 ghost use Rattle.std.specs.Prelude.{◌≡◌};
 ghost use Rattle.holding.specs.Seen.{through};
 ghost use Rattle.lever.specs.Levers.{of_lever};
 ghost use Rattle.motor.specs.Motors.{of_motor};
-ghost use Rattle.piles.specs.Piles.{Throws, other_side};
+ghost use Rattle.piles.specs.Piles.{Throws};
 ghost use Rattle.track.specs.Meaning.{laid};
 
 use acceptance::Accepted;
@@ -14,15 +14,6 @@ use motor::Motor;
 use station::Position;
 use track::{Refusal, Trackside};
 
-fn other_side(side: Position) -> Position
-    ensures { result ≡ other_side side }
-{
-    match side {
-        Position::Normal => Position::Reverse,
-        Position::Reverse => Position::Normal,
-    }
-}
-
 // Drives a point to the side at which it is not.
 pub fn throw_over<T: Trackside>(
     track: &mut T,
@@ -31,36 +22,16 @@ pub fn throw_over<T: Trackside>(
 ) -> Result<(), Refusal>
     ensures { Throws (laid station.now) (T.Trackside.meaning track.old) point result (T.Trackside.meaning track.new) }
 {
-    let p = track.point(station, point)?;
-    track.drive(station, point, other_side(p.target))
+    let other_side = match track.point(station, point)?.target {
+        Position::Normal => Position::Reverse,
+        Position::Reverse => Position::Normal,
+    };
+    track.drive(station, point, other_side)
 }
 
-pub fn throw_motor(
-    track: &mut Delay<Motor>,
-    station: &Accepted<'_>,
-    point: usize,
-) -> Result<(), Refusal>
-    ensures { Throws (laid station.now) (through (of_motor track.old.below) track.old.holding) point result (through (of_motor track.new.below) track.new.holding) }
-{
-    throw_over(track, station, point)
-}
-
-pub fn throw_counted(
-    track: &mut Counter<Delay<Lever>>,
-    station: &Accepted<'_>,
-    point: usize,
-) -> Result<(), Refusal>
-    ensures { Throws (laid station.now) (through (of_lever track.old.below.below) track.old.below.holding) point result (through (of_lever track.new.below.below) track.new.below.holding) }
-{
-    throw_over(track, station, point)
-}
-
-pub fn throw_twice(
-    track: &mut Delay<Delay<Lever>>,
-    station: &Accepted<'_>,
-    point: usize,
-) -> Result<(), Refusal>
-    ensures { Throws (laid station.now) (through (through (of_lever track.old.below.below) track.old.below.holding) track.old.holding) point result (through (through (of_lever track.new.below.below) track.new.below.holding) track.new.holding) }
-{
-    throw_over(track, station, point)
-}
+// Does nothing: its contract is what the piles mean, of which the contract of `throw_over` speaks.
+pub fn meanings(motor: &Delay<Motor>, counted: &Counter<Delay<Lever>>, twice: &Delay<Delay<Lever>>)
+    ensures motor { ⟦<Delay<Motor> as Trackside>⟧.meaning motor.now ≡ through (of_motor motor.now.below) motor.now.holding }
+    ensures counted { ⟦<Counter<Delay<Lever>> as Trackside>⟧.meaning counted.now ≡ through (of_lever counted.now.below.below) counted.now.below.holding }
+    ensures twice { ⟦<Delay<Delay<Lever>> as Trackside>⟧.meaning twice.now ≡ through (through (of_lever twice.now.below.below) twice.now.below.holding) twice.now.holding }
+{}

@@ -7,6 +7,7 @@ use Rattle.rows.specs.Rows.{Pair}
 use Rattle.naming.specs.Index.{Index, segment_number, point_number, route_number, zone_number, subroute_number}
 use Rattle.station.specs.declared.tests.Position.{Position}
 use Rattle.station.specs.declared.tests.Position.TheVariants.{Normal, Reverse}
+use Rattle.station.specs.declared.tests.Lock.{Lock}
 use Rattle.station.specs.declared.tests.Lock.TheVariants as lock
 use Rattle.station.specs.declared.tests.RequestTest.{RequestTest}
 use Rattle.station.specs.declared.tests.RequestTest.TheVariants as request
@@ -32,6 +33,14 @@ side_of state.R = Reverse
 side_of state.F = Normal
 side_of state.L = Normal
 side_of state.C = Normal
+
+-- the lock of a zone or of a subroute
+abbrev pub lock_of : Index → Thing Spot → Option Lock
+lock_of ix (segment x) = None
+lock_of ix (point x) = None
+lock_of ix (route x) = None
+lock_of ix (zone x) = Some (lock.Zone (zone_number ix x))
+lock_of ix (subroute a b) = Some (lock.Subroute (subroute_number ix a b))
 
 abbrev pub setting_by : Index → State → Thing Spot → Option Setting
 setting_by ix s (segment x) = None

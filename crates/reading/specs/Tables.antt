@@ -1,5 +1,5 @@
 -- The tables of a list of rows: each row adds what it declares at the end of its table.
-use Rattle.std.specs.Prelude.{ℕ, ◌+◌, ◌*◌, List, [], ◌∷◌, ◌++◌, length, Option}
+use Rattle.std.specs.Prelude.{ℕ, ◌+◌, ◌*◌, List, [], ◌∷◌, ◌++◌, fold, length, Option}
 use Rattle.forms.specs.Things.{Spot}
 use Rattle.rows.specs.Rows.{Row, segment_row, joint_row, point_row, way_row, signal_row, request_row, activation_row, move_row, release_row, zone_row}
 use Rattle.naming.specs.Index.{Index, index_of}
@@ -45,9 +45,8 @@ add_row ix rows t (release_row a b ts) = t
 add_row ix rows t (zone_row x ts) = add_zone t (zone_for ix x ts)
 
 -- one row after another, in a text that has all of `rows`
-unfoldable pub add_rows : Index → List (Row Spot) → Station → List (Row Spot) → Station
-add_rows ix rows t [] = t
-add_rows ix rows t (r ∷ rs) = add_rows ix rows (add_row ix rows t r) rs
+abbrev pub add_rows : Index → List (Row Spot) → Station → List (Row Spot) → Station
+add_rows ix rows t rs = fold (add_row ix rows) t rs
 
 abbrev pub tables_of : List (Row Spot) → Station
 tables_of rows = add_rows (index_of rows) rows empty rows

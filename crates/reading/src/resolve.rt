@@ -1,18 +1,18 @@
 // Pairs into tests, actions and settings, with names as numbers.
-ghost use Rattle.std.specs.Prelude.{◌≡◌, map, IfOk, Option as Maybe};
-ghost use Rattle.firsts.specs.Picks.{picks};
-ghost use Rattle.forms.specs.Things.{Spot};
+ghost use Rattle.std.specs.Prelude.{◌≡◌, map, filter_map, IfOk, Option as Maybe};
+ghost use Rattle.forms.specs.Things.{Spot, placed};
 ghost use Rattle.rows.specs.Rows.{Pair as Written, placed_pair};
 ghost use Rattle.naming.specs.Index.{Index as Numbers, indexed};
-ghost use Rattle.reading.specs.Resolve.{side_of, setting_of, request_test_of, action_of, activation_test_of, point_test_of, release_test_of};
+ghost use Rattle.reading.specs.Resolve.{side_of, lock_of, setting_of, request_test_of, action_of, activation_test_of, point_test_of, release_test_of};
 
+use crate::entries::Source;
 use forms::{State, Thing};
 use naming::Index;
 use rows::Pair;
 use station::{
     Action, ActivationTest, Lock, PointTest, Position, ReleaseTest, RequestTest, Setting,
 };
-use std::alloc::{AllocError, Global};
+use std::alloc::AllocError;
 
 // What a pair of a list means. A list takes each thing in its own states only, so the thing tells the
 // test, and the state no more than the side.
@@ -23,14 +23,24 @@ pub trait Resolve: Sized {
         ensures { result ≡ meant (indexed index.now) (placed_pair pair.entry) };
 }
 
+// Not a conversion of states: most of them have no position, and of these the answer means nothing.
 fn side(state: State) -> Position
     ensures { result ≡ side_of state }
 {
     match state {
-        State::Cfr => Position::Reverse,
-        State::Cr => Position::Reverse,
-        State::R => Position::Reverse,
+        State::Cfr | State::Cr | State::R => Position::Reverse,
         _ => Position::Normal,
+    }
+}
+
+// The lock of a zone or of a subroute.
+fn lock<'a>(index: &Index<'a>, thing: Thing<'a>) -> Option<Lock>
+    ensures { result ≡ lock_of (indexed index.now) (placed thing.entry) }
+{
+    match thing {
+        Thing::Zone(x) => Some(Lock::Zone(index.zones.number(x))),
+        Thing::Subroute(a, b) => Some(Lock::Subroute(index.subroute(a, b))),
+        _ => None,
     }
 }
 
@@ -40,7 +50,7 @@ impl Resolve for Setting {
     fn resolve<'a>(index: &Index<'a>, pair: Pair<'a>) -> Option<Setting> {
         match pair.thing {
             Thing::Point(x) => Some(Setting {
-                point: index.point(x),
+                point: index.points.number(x),
                 position: side(pair.state),
             }),
             _ => None,
@@ -53,11 +63,9 @@ impl Resolve for RequestTest {
 
     fn resolve<'a>(index: &Index<'a>, pair: Pair<'a>) -> Option<RequestTest> {
         match pair.thing {
-            Thing::Route(x) => Some(RequestTest::Unset(index.route(x))),
-            Thing::Point(x) => Some(RequestTest::Movable(index.point(x), side(pair.state))),
-            Thing::Zone(x) => Some(RequestTest::Free(Lock::Zone(index.zone(x)))),
-            Thing::Subroute(a, b) => Some(RequestTest::Free(Lock::Subroute(index.subroute(a, b)))),
-            Thing::Segment(_) => None,
+            Thing::Route(x) => Some(RequestTest::Unset(index.routes.number(x))),
+            Thing::Point(x) => Some(RequestTest::Movable(index.points.number(x), side(pair.state))),
+            thing => lock(index, thing).map(RequestTest::Free),
         }
     }
 }
@@ -67,11 +75,9 @@ impl Resolve for Action {
 
     fn resolve<'a>(index: &Index<'a>, pair: Pair<'a>) -> Option<Action> {
         match pair.thing {
-            Thing::Route(x) => Some(Action::Set(index.route(x))),
-            Thing::Point(x) => Some(Action::Drive(index.point(x), side(pair.state))),
-            Thing::Zone(x) => Some(Action::Take(Lock::Zone(index.zone(x)))),
-            Thing::Subroute(a, b) => Some(Action::Take(Lock::Subroute(index.subroute(a, b)))),
-            Thing::Segment(_) => None,
+            Thing::Route(x) => Some(Action::Set(index.routes.number(x))),
+            Thing::Point(x) => Some(Action::Drive(index.points.number(x), side(pair.state))),
+            thing => lock(index, thing).map(Action::Take),
         }
     }
 }
@@ -81,8 +87,8 @@ impl Resolve for ActivationTest {
 
     fn resolve<'a>(index: &Index<'a>, pair: Pair<'a>) -> Option<ActivationTest> {
         match pair.thing {
-            Thing::Point(x) => Some(ActivationTest::Lies(index.point(x), side(pair.state))),
-            Thing::Segment(x) => Some(ActivationTest::Clear(index.segment(x))),
+            Thing::Point(x) => Some(ActivationTest::Lies(index.points.number(x), side(pair.state))),
+            Thing::Segment(x) => Some(ActivationTest::Clear(index.segments.number(x))),
             _ => None,
         }
     }
@@ -92,15 +98,7 @@ impl Resolve for PointTest {
     ghost meant = { point_test_of };
 
     fn resolve<'a>(index: &Index<'a>, pair: Pair<'a>) -> Option<PointTest> {
-        match pair.thing {
-            Thing::Zone(x) => Some(PointTest {
-                free: Lock::Zone(index.zone(x)),
-            }),
-            Thing::Subroute(a, b) => Some(PointTest {
-                free: Lock::Subroute(index.subroute(a, b)),
-            }),
-            _ => None,
-        }
+        lock(index, pair.thing).map(|free| PointTest { free })
     }
 }
 
@@ -109,27 +107,22 @@ impl Resolve for ReleaseTest {
 
     fn resolve<'a>(index: &Index<'a>, pair: Pair<'a>) -> Option<ReleaseTest> {
         match pair.thing {
-            Thing::Route(x) => Some(ReleaseTest::Unset(index.route(x))),
+            Thing::Route(x) => Some(ReleaseTest::Unset(index.routes.number(x))),
             Thing::Subroute(a, b) => Some(ReleaseTest::Free(index.subroute(a, b))),
-            Thing::Segment(x) => Some(ReleaseTest::Clear(index.segment(x))),
+            Thing::Segment(x) => Some(ReleaseTest::Clear(index.segments.number(x))),
             _ => None,
         }
     }
 }
 
-// All that a list of pairs means, in order.
-pub fn resolve_all<'a, T: Resolve + Drop>(
-    index: &Index<'a>,
-    pairs: &[Pair<'a>],
-    heap: Global,
-) -> Result<Vec<T>, AllocError>
-    ensures { IfOk result (λ v. v.items ≡ picks (T.Resolve.meant (indexed index.now)) (map placed_pair pairs.now)) }
-{
-    let mut all = Vec::new(heap);
-    for pair in pairs {
-        if let Some(x) = T::resolve(index, *pair) {
-            all.push(x)?;
-        }
+impl<'r, 'a> Source<'r, 'a> {
+    // All that a list of pairs means, in order.
+    pub fn resolve_all<T: Resolve + Drop>(&self, pairs: &[Pair<'a>]) -> Result<Vec<T>, AllocError>
+        ensures { IfOk result (λ v. v.items ≡ filter_map (T.Resolve.meant (indexed self.now.index.now)) (map placed_pair pairs.now)) }
+    {
+        pairs
+            .iter()
+            .filter_map(|p| T::resolve(self.index, *p))
+            .collect(self.heap)
     }
-    Ok(all)
 }

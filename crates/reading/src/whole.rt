@@ -5,7 +5,7 @@ ghost use Rattle.sheets.specs.Outcomes.{done};
 ghost use Rattle.station.specs.Station.{station, empty};
 ghost use Rattle.reading.specs.Reading.{judged, reading, Settles, Fills};
 
-use crate::filling::add_rows;
+use crate::entries::Source;
 use naming::{Index, first_unknown, incomplete};
 use rows::{ReadingFault, Row};
 use sheets::sheet;
@@ -23,13 +23,19 @@ fn judge<'a>(
     ensures { Fills result (station tables.new) (judged length (done (map placed_row rows.now))) }
 {
     let index = Index::new(rows, heap)?;
+    // The first name is a finding of its own in the specifications, and becomes a fault only here.
     if let Some(at) = first_unknown(&index, rows) {
         return Err(ReadingFault::Undeclared(at));
     }
     if incomplete(rows) {
         return Err(ReadingFault::Incomplete(length));
     }
-    add_rows(tables, &index, rows, heap)?;
+    let source = Source {
+        rows,
+        index: &index,
+        heap,
+    };
+    source.add_rows(tables)?;
     Ok(())
 }
 
@@ -46,11 +52,9 @@ pub fn read(text: &[u8], heap: Global, tables: &mut Tables) -> Result<(), Readin
     ensures { Settles result (station tables.new) (reading text.now) }
 {
     tables.clear();
-    match fill(text, heap, tables) {
-        Ok(()) => Ok(()),
-        Err(fault) => {
-            tables.clear();
-            Err(fault)
-        }
+    let filled = fill(text, heap, tables);
+    if filled.is_err() {
+        tables.clear();
     }
+    filled
 }

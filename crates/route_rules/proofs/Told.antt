@@ -1,5 +1,5 @@
 -- The test of each rule of routes tells what the rule says.
-use Rattle.std.proofs.Common.{◌≡◌, ℕ, ◌-◌, ◌<◌, List, length, Decides, Contains, sym, refl, subst, arith}
+use Rattle.std.proofs.Common.{◌≡◌, ℕ, ◌-◌, ◌<◌, List, length, Decides, Contains, Option, sym, refl, subst, arith}
 use Rattle.std.proofs.lemmas.Bool.Decides.{Decides-eqb, Decides-ltb, Decides-not, Decides-and, Decides-like}
 use Rattle.firsts.proofs.Below.{decides_all_below}
 use Rattle.firsts.proofs.Elements.{decides_has, decides_every}
@@ -132,14 +132,14 @@ decides_sound_activation s r =
     decides_all_below (λ k. Asks s (route_at s r).activation (on_path s r k)) (λ k. decides_asks s (route_at s r).activation (on_path s r k)) (path_length s r)
 
 -- so the first route of which the test fails is the first that breaks the rule
-pub first_21 : (s : Station) → Breach21 s (breach_21 s)
-first_21 s = breach_is (sound_path s) (SoundPath s) (decides_path s) (length s.routes)
+pub first_21 : (s : Station) (r : Option ℕ) → r ≡ breach_21 s → Breach21 s r
+first_21 s r e = subst (Breach21 s) (sym e) (breach_is (sound_path s) (SoundPath s) (decides_path s) (length s.routes))
 
-pub first_22 : (s : Station) → Breach22 s (breach_22 s)
-first_22 s = breach_is (sound_signals s) (SoundSignals s) (decides_signals s) (length s.routes)
+pub first_22 : (s : Station) (r : Option ℕ) → r ≡ breach_22 s → Breach22 s r
+first_22 s r e = subst (Breach22 s) (sym e) (breach_is (sound_signals s) (SoundSignals s) (decides_signals s) (length s.routes))
 
-pub first_23 : (s : Station) → Breach23 s (breach_23 s)
-first_23 s = breach_is (sound_request s) (SoundRequest s) (decides_sound_request s) (length s.routes)
+pub first_23 : (s : Station) (r : Option ℕ) → r ≡ breach_23 s → Breach23 s r
+first_23 s r e = subst (Breach23 s) (sym e) (breach_is (sound_request s) (SoundRequest s) (decides_sound_request s) (length s.routes))
 
-pub first_24 : (s : Station) → Breach24 s (breach_24 s)
-first_24 s = breach_is (sound_activation s) (SoundActivation s) (decides_sound_activation s) (length s.routes)
+pub first_24 : (s : Station) (r : Option ℕ) → r ≡ breach_24 s → Breach24 s r
+first_24 s r e = subst (Breach24 s) (sym e) (breach_is (sound_activation s) (SoundActivation s) (decides_sound_activation s) (length s.routes))

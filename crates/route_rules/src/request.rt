@@ -1,54 +1,37 @@
 // Rule 23: a request tests and sets its own route, drives each point once and under its test, and drives its path's points as its ways say.
 ghost use Rattle.std.specs.Prelude.{◌≡◌};
 ghost use Rattle.station.specs.Station.{station};
-ghost use Rattle.station.specs.Numbers.{route_at};
-ghost use Rattle.station.specs.Subroutes.{settings_of};
-ghost use Rattle.station.specs.Paths.{on_path};
-ghost use Rattle.route_rules.specs.Request.{drives_all, sound_request, breach_23, Breach23};
+ghost use Rattle.route_rules.specs.Request.{path_driven, sound_request, breach_23, Breach23};
 
 use crate::row::{drives_all, row_fits};
-use firsts::{Claim, every_below, first_breach};
+use firsts::first_breach;
 use lookups::{actions, request_tests, route_count, settings_of};
 use paths::{on_path, path_length};
 use station::Tables;
 
-#[derive(Clone, Copy)]
-struct DrivenPath<'a> {
-    tables: &'a Tables,
-    route: usize,
+// Whether the route's request drives the points of its path as its ways say.
+fn path_driven(tables: &Tables, route: usize) -> bool
+    ensures { result ≡ path_driven (station tables.now) route }
+{
+    let actions = actions(tables, route);
+    (0..path_length(tables, route)).all(|k| drives_all(
+        actions,
+        settings_of(tables, on_path(tables, route, k)),
+    ))
 }
 
-impl<'a> Claim<usize> for DrivenPath<'a> {
-    ghost holds = { λ s k. drives_all (route_at (station s.tables.now) s.route).actions (settings_of (station s.tables.now) (on_path (station s.tables.now) s.route k)) };
-
-    fn holds(&self, k: usize) -> bool {
-        let u = on_path(self.tables, self.route, k);
-        drives_all(
-            actions(self.tables, self.route),
-            settings_of(self.tables, u),
-        )
-    }
-}
-
-#[derive(Clone, Copy)]
-struct Requests<'a> {
-    tables: &'a Tables,
-}
-
-impl<'a> Claim<usize> for Requests<'a> {
-    ghost holds = { λ s r. sound_request (station s.tables.now) r };
-
-    fn holds(&self, route: usize) -> bool {
-        let tables = self.tables;
-        row_fits(route, request_tests(tables, route), actions(tables, route))
-            && every_below(&DrivenPath { tables, route }, path_length(tables, route))
-    }
+fn is_sound(tables: &Tables, route: usize) -> bool
+    ensures { result ≡ sound_request (station tables.now) route }
+{
+    row_fits(route, request_tests(tables, route), actions(tables, route))
+        && path_driven(tables, route)
 }
 
 // The first route whose request does not keep to itself and its points.
+#[tactic(auto, using(crate::proofs::Told::first_23))]
 pub fn rule_23(tables: &Tables) -> Option<usize>
     ensures value { result ≡ breach_23 (station tables.now) }
     ensures first { Breach23 (station tables.now) result }
 {
-    first_breach(&Requests { tables }, route_count(tables))
+    first_breach(route_count(tables), |route| is_sound(tables, route))
 }

@@ -1,9 +1,11 @@
 // Rule 22: a signal at a route's start, none at an inner joint along its path, and at its end one onward, or the outside or a buffer stop.
 ghost use Rattle.std.specs.Prelude.{◌≡◌};
+ghost use Rattle.firsts.specs.Claims.{all_below};
 ghost use Rattle.station.specs.Station.{station};
+ghost use Rattle.station.specs.Paths.{path_length};
 ghost use Rattle.route_rules.specs.Signals.{into, leads_on, last_of, unsignalled_at, sound_signals, breach_22, Breach22};
 
-use firsts::{Claim, every_below, first_breach};
+use firsts::first_breach;
 use lookups::{across, end, route_count, segment_of, signalled, start};
 use paths::{on_path, path_length};
 use station::{Beyond, Tables};
@@ -22,8 +24,7 @@ fn leads_on(tables: &Tables, u: usize) -> bool
     let joint = end(tables, u);
     match across(tables, joint, segment_of(tables, u)) {
         Beyond::Segment(t) => signalled(tables, joint, t),
-        Beyond::Outside => true,
-        Beyond::BufferStop => true,
+        Beyond::Outside | Beyond::BufferStop => true,
     }
 }
 
@@ -34,44 +35,36 @@ fn last_of(tables: &Tables, route: usize) -> usize
     on_path(tables, route, path_length(tables, route).saturating_sub(1))
 }
 
-#[derive(Clone, Copy)]
-struct Inner<'a> {
-    tables: &'a Tables,
-    route: usize,
-}
-
-impl<'a> Claim<usize> for Inner<'a> {
-    ghost holds = { λ s k. unsignalled_at (station s.tables.now) s.route k };
-
-    fn holds(&self, k: usize) -> bool {
-        if 0 < k {
-            !into(self.tables, on_path(self.tables, self.route, k))
-        } else {
-            true
-        }
+// Whether the k-th joint of a path is its first or has no signal along the path.
+fn unsignalled_at(tables: &Tables, route: usize, k: usize) -> bool
+    ensures { result ≡ unsignalled_at (station tables.now) route k }
+{
+    if 0 < k {
+        !into(tables, on_path(tables, route, k))
+    } else {
+        true
     }
 }
 
-#[derive(Clone, Copy)]
-struct Signals<'a> {
-    tables: &'a Tables,
+fn unsignalled_inside(tables: &Tables, route: usize) -> bool
+    ensures { result ≡ all_below (unsignalled_at (station tables.now) route) (path_length (station tables.now) route) }
+{
+    (0..path_length(tables, route)).all(|k| unsignalled_at(tables, route, k))
 }
 
-impl<'a> Claim<usize> for Signals<'a> {
-    ghost holds = { λ s r. sound_signals (station s.tables.now) r };
-
-    fn holds(&self, route: usize) -> bool {
-        let tables = self.tables;
-        into(tables, on_path(tables, route, 0))
-            && every_below(&Inner { tables, route }, path_length(tables, route))
-            && leads_on(tables, last_of(tables, route))
-    }
+fn is_sound(tables: &Tables, route: usize) -> bool
+    ensures { result ≡ sound_signals (station tables.now) route }
+{
+    into(tables, on_path(tables, route, 0))
+        && unsignalled_inside(tables, route)
+        && leads_on(tables, last_of(tables, route))
 }
 
 // The first route without a signal at its start, with one along its path, or without one at its end.
+#[tactic(auto, using(crate::proofs::Told::first_22))]
 pub fn rule_22(tables: &Tables) -> Option<usize>
     ensures value { result ≡ breach_22 (station tables.now) }
     ensures first { Breach22 (station tables.now) result }
 {
-    first_breach(&Signals { tables }, route_count(tables))
+    first_breach(route_count(tables), |route| is_sound(tables, route))
 }

@@ -1,27 +1,27 @@
 -- Which rows declare the same, and how many of a kind there are.
-use Rattle.std.specs.Prelude.{ℕ, Bool, ◌&&◌, List, [], count_by, ◌==◌, nat_le, nat_lt}
+use Rattle.std.specs.Prelude.{ℕ, Bool, true, false, ◌&&◌, List, [], count_by, nat_le}
+use Rattle.std.specs.List.{list_any}
 use Rattle.std.specs.Str.{bytes_eq}
 use Rattle.station.specs.declared.tests.Position.{Position}
 use Rattle.station.specs.declared.tests.Position.TheVariants.{Normal, Reverse}
 use Rattle.forms.specs.Things.{Spot}
 use Rattle.rows.specs.declared.filters.Kind.{Kind}
 use Rattle.rows.specs.declared.filters.Kind.TheVariants as kind
-use Rattle.rows.specs.declared.filters.Filter as filter_type
-use Rattle.rows.specs.declared.filters.Filter.TheVariants as code
 use Rattle.rows.specs.Rows.{Row, segment_row, joint_row, point_row, way_row, signal_row, request_row, activation_row, move_row, release_row, zone_row}
 
-abbrev pub kind_number : Kind → ℕ
-kind_number kind.Segment = 0
-kind_number kind.Joint = 1
-kind_number kind.Point = 2
-kind_number kind.Way = 3
-kind_number kind.Signal = 4
-kind_number kind.Request = 5
-kind_number kind.Activation = 6
-kind_number kind.NormalMove = 7
-kind_number kind.ReverseMove = 8
-kind_number kind.Release = 9
-kind_number kind.Zone = 10
+abbrev pub same_kind : Kind → Kind → Bool
+same_kind kind.Segment kind.Segment = true
+same_kind kind.Joint kind.Joint = true
+same_kind kind.Point kind.Point = true
+same_kind kind.Way kind.Way = true
+same_kind kind.Signal kind.Signal = true
+same_kind kind.Request kind.Request = true
+same_kind kind.Activation kind.Activation = true
+same_kind kind.NormalMove kind.NormalMove = true
+same_kind kind.ReverseMove kind.ReverseMove = true
+same_kind kind.Release kind.Release = true
+same_kind kind.Zone kind.Zone = true
+same_kind j k = false
 
 abbrev pub move_kind : Position → Kind
 move_kind Normal = kind.NormalMove
@@ -77,35 +77,25 @@ home_of (move_row x p ts) = []
 home_of (release_row a b ts) = []
 home_of (zone_row x ts) = []
 
-pub data Filter : Type 0 where
-  of_kind : Kind → Filter
-  named : Kind → List ℕ → List ℕ → Filter
-  at_home : List ℕ → Filter
-
-abbrev pub filtering : filter_type.Filter → Filter
-filtering (code.OfKind k) = of_kind k
-filtering (code.Named k a b) = named k a.now b.now
-filtering (code.AtHome s) = at_home s.now
-
 abbrev pub of_head : Kind → Row Spot → Bool
-of_head k r = kind_number (head_of r) == kind_number k
+of_head k r = same_kind (head_of r) k
 
-abbrev pub passes : Filter → Row Spot → Bool
-passes (of_kind k) r = of_head k r
-passes (named k a b) r = of_head k r && (bytes_eq (first_of r) a && bytes_eq (second_of r) b)
-passes (at_home s) r = of_head kind.Point r && bytes_eq (home_of r) s
+-- a row of a kind with one name, or with two
+abbrev pub named : Kind → List ℕ → List ℕ → Row Spot → Bool
+named k a b r = of_head k r && (bytes_eq (first_of r) a && bytes_eq (second_of r) b)
 
-unfoldable pub how_many : Filter → List (Row Spot) → ℕ
-how_many f rows = count_by (passes f) rows
+-- a point with this home segment
+abbrev pub at_home : List ℕ → Row Spot → Bool
+at_home s r = of_head kind.Point r && bytes_eq (home_of r) s
 
 -- as many rows of a kind as there may be
 abbrev pub full : List (Row Spot) → Kind → ℕ → Bool
-full rows k n = nat_le n (how_many (of_kind k) rows)
+full rows k n = nat_le n (count_by (of_head k) rows)
 
 -- a row of a kind with these names is there
 abbrev pub known : List (Row Spot) → Kind → List ℕ → List ℕ → Bool
-known rows k a b = nat_lt 0 (how_many (named k a b) rows)
+known rows k a b = list_any (named k a b) rows
 
 -- four points have this home segment
 abbrev pub crowded : List (Row Spot) → List ℕ → Bool
-crowded rows s = nat_le 4 (how_many (at_home s) rows)
+crowded rows s = nat_le 4 (count_by (at_home s) rows)

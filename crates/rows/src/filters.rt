@@ -1,13 +1,16 @@
 // Which of the rows so far a new row must not repeat or add to.
-ghost use Rattle.std.specs.Prelude.{◌≡◌, ◌≤◌, map, length, count_by};
+ghost use Rattle.std.specs.Prelude.{◌≡◌, map, [], count_by};
 ghost use Rattle.rows.specs.Rows.{placed_pair, placed_row, tests_of};
-ghost use Rattle.rows.specs.Filters.{kind_number, filtering, head_of, first_of, second_of, home_of, of_head, named, passes, how_many, full, known, crowded};
+ghost use Rattle.rows.specs.Filters.{move_kind, head_of, first_of, second_of, of_head, named, at_home, full, known, crowded};
 
 use crate::rows::{Pair, Row};
-use forms::is_text;
+use forms::Name;
 use station::Position;
 
-#[derive(Clone, Copy)]
+// The most points that have one home segment.
+const HOMES: usize = 4;
+
+#[derive(Clone, Copy, PartialEq)]
 pub enum Kind {
     Segment,
     Joint,
@@ -22,34 +25,45 @@ pub enum Kind {
     Zone,
 }
 
-impl Kind {
-    fn number(self) -> u8
-        ensures { result ≡ kind_number self }
-    {
-        match self {
-            Kind::Segment => 0,
-            Kind::Joint => 1,
-            Kind::Point => 2,
-            Kind::Way => 3,
-            Kind::Signal => 4,
-            Kind::Request => 5,
-            Kind::Activation => 6,
-            Kind::NormalMove => 7,
-            Kind::ReverseMove => 8,
-            Kind::Release => 9,
-            Kind::Zone => 10,
+impl From<Position> for Kind {
+    ghost from_gives = { λ p k. k ≡ move_kind p };
+
+    // The kind of a point's row to this side.
+    fn from(position: Position) -> Kind {
+        match position {
+            Position::Normal => Kind::NormalMove,
+            Position::Reverse => Kind::ReverseMove,
         }
     }
 }
 
-#[derive(Clone, Copy)]
-pub enum Filter<'a> {
-    // rows of a kind
-    OfKind(Kind),
-    // rows of a kind with one name, or with two
-    Named(Kind, &'a [u8], &'a [u8]),
-    // points with this home segment
-    AtHome(&'a [u8]),
+// What tells rows of one kind apart: a name and nothing, or two names.
+#[derive(Clone, Copy, PartialEq)]
+pub struct Key<'a> {
+    pub first: &'a [u8],
+    pub second: &'a [u8],
+}
+
+impl<'a> From<Name<'a>> for Key<'a> {
+    ghost from_gives = { λ n k. (k.first.now ≡ n.octets.now) × (k.second.now ≡ []) };
+
+    fn from(name: Name<'a>) -> Key<'a> {
+        Key {
+            first: name.octets,
+            second: b"",
+        }
+    }
+}
+
+impl<'a> From<(Name<'a>, Name<'a>)> for Key<'a> {
+    ghost from_gives = { λ p k. (k.first.now ≡ p.0.octets.now) × (k.second.now ≡ p.1.octets.now) };
+
+    fn from((first, second): (Name<'a>, Name<'a>)) -> Key<'a> {
+        Key {
+            first: first.octets,
+            second: second.octets,
+        }
+    }
 }
 
 impl<'a> Row<'a> {
@@ -64,66 +78,49 @@ impl<'a> Row<'a> {
             Row::Signal(_) => Kind::Signal,
             Row::Request(_) => Kind::Request,
             Row::Activation(_) => Kind::Activation,
-            Row::Move(m) => match m.position {
-                Position::Normal => Kind::NormalMove,
-                Position::Reverse => Kind::ReverseMove,
-            },
+            Row::Move(m) => Kind::from(m.position),
             Row::Release(_) => Kind::Release,
             Row::Zone(_) => Kind::Zone,
         }
     }
 
-    // The name that the row declares or is about; a way's and a signal's and a release's is its first joint.
-    pub fn first(&self) -> &'a [u8]
-        ensures { result.now ≡ first_of (placed_row self.now) }
+    // The name that the row declares or is about; a way, a signal and a release have two.
+    pub fn key(&self) -> Key<'a>
+        ensures first { result.first.now ≡ first_of (placed_row self.now) }
+        ensures second { result.second.now ≡ second_of (placed_row self.now) }
     {
         match self {
-            Row::Segment(name) => name.octets,
-            Row::Joint(j) => j.name.octets,
-            Row::Point(p) => p.name.octets,
-            Row::Way(w) => w.from.octets,
-            Row::Signal(s) => s.joint.octets,
-            Row::Request(q) => q.route.octets,
-            Row::Activation(a) => a.route.octets,
-            Row::Move(m) => m.point.octets,
-            Row::Release(u) => u.from.octets,
-            Row::Zone(z) => z.zone.octets,
-        }
-    }
-
-    // The second name that tells such rows apart, or none.
-    pub fn second(&self) -> &'a [u8]
-        ensures { result.now ≡ second_of (placed_row self.now) }
-    {
-        match self {
-            Row::Way(w) => w.to.octets,
-            Row::Signal(s) => s.segment.octets,
-            Row::Release(u) => u.to.octets,
-            _ => b"",
-        }
-    }
-
-    // A point's home segment.
-    fn home(&self) -> &'a [u8]
-        ensures { result.now ≡ home_of (placed_row self.now) }
-    {
-        match self {
-            Row::Point(p) => p.home.octets,
-            _ => b"",
+            Row::Segment(name) => Key::from(*name),
+            Row::Joint(j) => Key::from(j.name),
+            Row::Point(p) => Key::from(p.name),
+            Row::Way(w) => Key::from((w.from, w.to)),
+            Row::Signal(s) => Key::from((s.joint, s.segment)),
+            Row::Request(q) => Key::from(q.route),
+            Row::Activation(a) => Key::from(a.route),
+            Row::Move(m) => Key::from(m.point),
+            Row::Release(u) => Key::from((u.from, u.to)),
+            Row::Zone(z) => Key::from(z.zone),
         }
     }
 
     pub fn is_of(&self, kind: Kind) -> bool
         ensures { result ≡ of_head kind (placed_row self.now) }
     {
-        self.kind().number() == kind.number()
+        self.kind() == kind
     }
 
-    // Whether the row is of the kind and has these names.
-    pub fn is_named(&self, kind: Kind, first: &[u8], second: &[u8]) -> bool
-        ensures { result ≡ passes (named kind first.now second.now) (placed_row self.now) }
+    // Whether the row is of the kind and has this key.
+    pub fn is_named(&self, kind: Kind, key: Key) -> bool
+        ensures { result ≡ named kind key.entry.first.now key.entry.second.now (placed_row self.now) }
     {
-        self.is_of(kind) && is_text(self.first(), first) && is_text(self.second(), second)
+        self.is_of(kind) && self.key() == key
+    }
+
+    // Whether the row is a point's with this home segment.
+    fn is_at_home(&self, segment: &[u8]) -> bool
+        ensures { result ≡ at_home segment.now (placed_row self.now) }
+    {
+        matches!(self, Row::Point(p) if p.home.octets == segment)
     }
 
     // The row's tests, or a way's settings.
@@ -140,48 +137,25 @@ impl<'a> Row<'a> {
             _ => &[],
         }
     }
-
-    fn passes(&self, filter: Filter<'a>) -> bool
-        ensures { result ≡ passes (filtering filter.entry) (placed_row self.now) }
-    {
-        match filter {
-            Filter::OfKind(kind) => self.is_of(kind),
-            Filter::Named(kind, a, b) => self.is_named(kind, a, b),
-            Filter::AtHome(segment) => self.is_of(Kind::Point) && is_text(self.home(), segment),
-        }
-    }
-}
-
-// How many rows pass the filter.
-fn how_many<'a>(rows: &[Row<'a>], filter: Filter<'a>) -> usize
-    ensures { result ≡ how_many (filtering filter.entry) (map placed_row rows.now) }
-{
-    let mut n = 0;
-    for row in rows {
-        if row.passes(filter) {
-            n += 1;
-        }
-    }
-    n
 }
 
 // Whether there are as many rows of a kind as there may be.
-pub fn full<'a>(rows: &[Row<'a>], kind: Kind, most: usize) -> bool
+pub fn full(rows: &[Row], kind: Kind, most: usize) -> bool
     ensures { result ≡ full (map placed_row rows.now) kind most }
 {
-    how_many(rows, Filter::OfKind(kind)) >= most
+    rows.iter().filter(|r| r.is_of(kind)).count() >= most
 }
 
-// Whether there is a row of the kind with these names.
-pub fn known<'a>(rows: &[Row<'a>], kind: Kind, first: &'a [u8], second: &'a [u8]) -> bool
-    ensures { result ≡ known (map placed_row rows.now) kind first.now second.now }
+// Whether there is a row of the kind with this key.
+pub fn known(rows: &[Row], kind: Kind, key: Key) -> bool
+    ensures { result ≡ known (map placed_row rows.now) kind key.entry.first.now key.entry.second.now }
 {
-    how_many(rows, Filter::Named(kind, first, second)) > 0
+    rows.iter().any(|r| r.is_named(kind, key))
 }
 
 // Whether the segment has as many points as it may have.
-pub fn crowded<'a>(rows: &[Row<'a>], segment: &'a [u8]) -> bool
+pub fn crowded(rows: &[Row], segment: &[u8]) -> bool
     ensures { result ≡ crowded (map placed_row rows.now) segment.now }
 {
-    how_many(rows, Filter::AtHome(segment)) >= 4
+    rows.iter().filter(|r| r.is_at_home(segment)).count() >= HOMES
 }

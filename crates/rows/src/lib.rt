@@ -6,7 +6,7 @@ mod filters;
 mod rows;
 
 pub use faults::{ReadingFault, RowFault};
-pub use filters::{Kind, crowded, full, known};
+pub use filters::{Key, Kind, crowded, full, known};
 pub use rows::{
     ActivationRow, Far, JointRow, MoveRow, Pair, PointRow, ReleaseRow, RequestRow, Row, SignalRow,
     WayRow, ZoneRow,

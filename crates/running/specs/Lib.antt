@@ -1,2 +1,2 @@
-pub mod Carried
+pub mod Logs
 pub mod Unruns

@@ -1,12 +1,11 @@
 // Opening a machine and carrying out a list of calls.
-ghost use Rattle.std.specs.Prelude.{◌≡◌, length, IfOk, None, vec_len, MatchResult};
+ghost use Rattle.std.specs.Prelude.{◌≡◌, ◌≤◌, [], length, IfOk, None, vec_capacity, MatchResult};
 ghost use Rattle.calls.specs.Opening.{open_denial, opened};
-ghost use Rattle.conditions.specs.States.{State};
 ghost use Rattle.interlocking.specs.Machines.{state_of};
-ghost use Rattle.running.specs.Carried.{Carried};
+ghost use Rattle.running.specs.Logs.{Log};
 ghost use Rattle.running.specs.Unruns.{GivesBack};
-ghost use Rattle.safety.specs.Histories.{History};
-ghost use Rattle.track.specs.Meaning.{Meaning, laid};
+ghost use Rattle.safety.specs.Safety.{SafeThrough};
+ghost use Rattle.track.specs.Meaning.{laid};
 
 use acceptance::Accepted;
 use calls::{Answer, Call};
@@ -30,19 +29,21 @@ pub enum Unrun<T> {
     Memory(T),
 }
 
-// Carries out the calls from the first to the last, refused ones among them.
+// Carries out the calls from the first to the last, refused ones among them. There is room for all answers.
 fn carry_out<T: Trackside>(
     machine: &mut Machine<T>,
     station: &Accepted<'_>,
     calls: &[Call],
     answers: &mut Vec<Answer>,
 )
-    requires { vec_len answers.old ≡ length calls.now }
-    ensures { (m : Meaning) → length m.trains ≡ 16 → open_denial (laid station.now) m ≡ None → state_of T.Trackside.meaning machine.old ≡ opened m → (h : History) × Carried (laid station.now) m calls.now answers.new.items (state_of T.Trackside.meaning machine.new) h }
+    requires empty { answers.old.items ≡ [] }
+    requires room { length calls.now ≤ vec_capacity answers.old }
+    ensures { Log (laid station.now) (state_of T.Trackside.meaning machine.old) calls.now answers.new.items (state_of T.Trackside.meaning machine.new) }
 {
-    let n = calls.len();
-    for i in 0..n {
-        answers[i] = machine.call(station, calls[i]);
+    // a loop, since of what a closure changes a chain promises nothing
+    for call in calls {
+        let answer = machine.call(station, *call);
+        let _ = answers.push(answer);
     }
 }
 
@@ -53,17 +54,15 @@ pub fn run<T: Trackside>(
     station: &Accepted<'_>,
     calls: &[Call],
 ) -> Result<Ran<T>, Unrun<T>>
-    ensures opens { MatchResult result (λ _. open_denial (laid station.now) (T.Trackside.meaning track) ≡ None) (GivesBack track (open_denial (laid station.now) (T.Trackside.meaning track))) }
-    ensures carried { IfOk result (λ x. (h : History) × Carried (laid station.now) (T.Trackside.meaning track) calls.now x.answers.items (state_of T.Trackside.meaning x.machine) h) }
+    ensures opens { MatchResult result (λ _. open_denial (laid station.now) (T.Trackside.meaning track) ≡ None) (GivesBack track (open_denial (laid station.now) (T.Trackside.meaning track)) (length calls.now)) }
+    ensures carried { IfOk result (λ x. (log : Log (laid station.now) (opened (T.Trackside.meaning track)) calls.now x.answers.items (state_of T.Trackside.meaning x.machine)) × SafeThrough (laid station.now) (opened (T.Trackside.meaning track)) [] log.entries) }
 {
-    let mut answers = match vec![in heap; Answer::Done; calls.len()] {
-        Ok(v) => v,
-        Err(_) => return Err(Unrun::Memory(track)),
+    // no `map_err`: its closure would take the track
+    let Ok(mut answers) = Vec::with_capacity(heap, calls.len()) else {
+        return Err(Unrun::Memory(track));
     };
-    let mut machine = match Machine::open(track, station) {
-        Ok(m) => m,
-        Err((track, denial)) => return Err(Unrun::Denied(track, denial)),
-    };
+    let opened = Machine::open(track, station);
+    let mut machine = opened.map_err(|(track, denial)| Unrun::Denied(track, denial))?;
     carry_out(&mut machine, station, calls, &mut answers);
     Ok(Ran { answers, machine })
 }

@@ -1,7 +1,7 @@
 -- What a request row's actions do, one after another.
 use Rattle.std.proofs.Common.{◌≡◌, ℕ, zero, suc, ◌<◌, true, false, ◌≢◌, ◌⊎◌, List, [], ◌∷◌, length, get_or, Contains, sym, refl, ap, ◌∙◌, subst, inl, inr, arith}
 use Rattle.std.proofs.lemmas.List.{get_or_past}
-use Rattle.std.proofs.lemmas.Bool.{cases_lt}
+use Rattle.std.proofs.lemmas.Bool.{cases_lt, both_ways}
 use Rattle.station.specs.Station.{Station}
 use Rattle.station.specs.declared.tests.Action.{Action}
 use Rattle.station.specs.declared.tests.Action.TheVariants.{Set, Drive, Take}
@@ -16,7 +16,6 @@ use Rattle.states.specs.declared.slots.States.{States}
 use Rattle.conditions.specs.States.{State}
 use Rattle.calls.specs.Grants.{AllActed}
 use Rattle.safety.proofs.Kept.{Sized}
-use Rattle.safety.proofs.Requests.{both}
 use Rattle.safety.proofs.Actions.{Slot, live, Effect, effect}
 
 -- an element of a list is its first or one of the rest
@@ -37,10 +36,10 @@ has_cases x y xs h = go h.0 h.1 h.2
 locked_slot : (own : States) → Sized own → (l : Lock) → is_locked own l ≡ true → Slot l
 locked_slot own sz (Zone z) e =
     let c = sz.zones in
-    elim (cases_lt z (length own.zones)) [ inl h ↦ omega arith | inr h ↦ absurd (both e (get_or_past own.zones z false h)) ]
+    elim (cases_lt z (length own.zones)) [ inl h ↦ omega arith | inr h ↦ absurd (both_ways _ (get_or_past own.zones z false h) e) ]
 locked_slot own sz (Subroute u) e =
     let c = sz.subroutes in
-    elim (cases_lt u (length own.subroutes)) [ inl h ↦ omega arith | inr h ↦ absurd (both e (get_or_past own.subroutes u false h)) ]
+    elim (cases_lt u (length own.subroutes)) [ inl h ↦ omega arith | inr h ↦ absurd (both_ways _ (get_or_past own.subroutes u false h) e) ]
 
 -- a lock that is taken stays so through an action
 lock_stays : (a : Action) (v w : State) → Sized v.own → Effect a v w → (l : Lock) → is_locked v.own l ≡ true → is_locked w.own l ≡ true
@@ -64,11 +63,11 @@ module _ (s : Station) where
   -- Trains, signals and active routes stay, and so does all that was set or locked.
   pub acts_stay : (acts : List Action) (v w : State) → Sized v.own → AllActed s acts v w → Stayed v w
   acts_stay [] v w sz e =
-      subst (λ y. Stayed v y) (sym e) (record { trains = refl; signals = refl; count = refl; sized = sz; active = λ q. refl; stays = λ q l. l; locks = λ l k. k })
+      subst (λ y. Stayed v y) e (record { trains = refl; signals = refl; count = refl; sized = sz; active = λ q. refl; stays = λ q l. l; locks = λ l k. k })
   acts_stay (a ∷ acts) v w sz e =
       let u = e.0 in
-      let f = effect s a v u sz e.1.0 in
-      let m = acts_stay acts u w f.sized e.1.1 in
+      let f = effect s a v u sz e.1 in
+      let m = acts_stay acts u w f.sized e.2 in
       record {
         trains = m.trains ∙ f.trains;
         signals = m.signals ∙ f.signals;
@@ -81,26 +80,26 @@ module _ (s : Station) where
 
   -- A route that no action sets keeps its state.
   pub acts_route : (acts : List Action) (v w : State) → Sized v.own → AllActed s acts v w → (q : ℕ) → (Contains acts (Set q) → ⊥) → route_state w.own q ≡ route_state v.own q
-  acts_route [] v w sz e q ne = ap (λ y. route_state y.own q) e
+  acts_route [] v w sz e q ne = ap (λ y. route_state y.own q) (sym e)
   acts_route (a ∷ acts) v w sz e q ne =
       let u = e.0 in
-      let f = effect s a v u sz e.1.0 in
-      acts_route acts u w f.sized e.1.1 q (λ h. ne (has_more a (Set q) acts h)) ∙ f.route q (λ d. ne (subst (λ y. Contains (y ∷ acts) (Set q)) (sym d) (has_first (Set q) acts)))
+      let f = effect s a v u sz e.1 in
+      acts_route acts u w f.sized e.2 q (λ h. ne (has_more a (Set q) acts h)) ∙ f.route q (λ d. ne (subst (λ y. Contains (y ∷ acts) (Set q)) (sym d) (has_first (Set q) acts)))
 
   -- A route that some action sets is set.
   pub acts_set : (acts : List Action) (v w : State) → Sized v.own → AllActed s acts v w → (q : ℕ) → q < 48 → Contains acts (Set q) → live w q ≡ true
   acts_set [] v w sz e q hq h = absurd (let k : h.0 < 0 = h.1 in omega arith)
   acts_set (a ∷ acts) v w sz e q hq h =
       let u = e.0 in
-      let f = effect s a v u sz e.1.0 in
-      elim (has_cases a (Set q) acts h) [ inl d ↦ (acts_stay acts u w f.sized e.1.1).stays q (f.sets q d hq) | inr k ↦ acts_set acts u w f.sized e.1.1 q hq k ]
+      let f = effect s a v u sz e.1 in
+      elim (has_cases a (Set q) acts h) [ inl d ↦ (acts_stay acts u w f.sized e.2).stays q (f.sets q d hq) | inr k ↦ acts_set acts u w f.sized e.2 q hq k ]
 
   pub acts_lock : (acts : List Action) (v w : State) → Sized v.own → AllActed s acts v w → (l : Lock) → LockAfter acts v w l
-  acts_lock [] v w sz e l = inr (λ h. (let k : h.0 < 0 = h.1 in omega arith), ap (λ y. is_locked y.own l) e)
+  acts_lock [] v w sz e l = inr (λ h. (let k : h.0 < 0 = h.1 in omega arith), ap (λ y. is_locked y.own l) (sym e))
   acts_lock (a ∷ acts) v w sz e l =
       let u = e.0 in
-      let f = effect s a v u sz e.1.0 in
-      go u f e.1.1 (f.lock l) (acts_lock acts u w f.sized e.1.1 l)
+      let f = effect s a v u sz e.1 in
+      go u f e.2 (f.lock l) (acts_lock acts u w f.sized e.2 l)
     where
       go : (u : State) → Effect a v u → AllActed s acts u w → ((a ≡ Take l) × (Slot l → is_locked u.own l ≡ true)) ⊎ ((a ≡ Take l → ⊥) × (is_locked u.own l ≡ is_locked v.own l)) → LockAfter acts u w l → LockAfter (a ∷ acts) v w l
       go u f more (inl k) rest = inl (subst (λ y. Contains (y ∷ acts) (Take l)) (sym k.0) (has_first (Take l) acts), λ h. (acts_stay acts u w f.sized more).locks l (k.1 h))
@@ -109,11 +108,11 @@ module _ (s : Station) where
 
   -- A point keeps its state, where every drive to another target needs a leave F that the point then has.
   pub acts_point : (old : ℕ → PointState) (F : ℕ → Type 0) (acts : List Action) → ((p : ℕ) (x : Position) → Contains acts (Drive p x) → ((old p).target ≡ x) ⊎ F p) → (v w : State) → Sized v.own → AllActed s acts v w → ((p : ℕ) → (state_at v.track p ≡ old p) ⊎ F p) → (p : ℕ) → (state_at w.track p ≡ old p) ⊎ F p
-  acts_point old F [] leave v w sz e known p = elim (known p) [ inl k ↦ inl (ap (λ y. state_at y.track p) e ∙ k) | inr k ↦ inr k ]
+  acts_point old F [] leave v w sz e known p = elim (known p) [ inl k ↦ inl (ap (λ y. state_at y.track p) (sym e) ∙ k) | inr k ↦ inr k ]
   acts_point old F (a ∷ acts) leave v w sz e known p =
       let u = e.0 in
-      let f = effect s a v u sz e.1.0 in
-      acts_point old F acts (λ q x h. leave q x (has_more a (Drive q x) acts h)) u w f.sized e.1.1 (λ q. go u q (f.point q) (known q)) p
+      let f = effect s a v u sz e.1 in
+      acts_point old F acts (λ q x h. leave q x (has_more a (Drive q x) acts h)) u w f.sized e.2 (λ q. go u q (f.point q) (known q)) p
     where
       go : (u : State) (q : ℕ) → (state_at u.track q ≡ state_at v.track q) ⊎ ((x : Position) × (a ≡ Drive q x) × ((state_at v.track q).target ≢ x)) → (state_at v.track q ≡ old q) ⊎ F q → (state_at u.track q ≡ old q) ⊎ F q
       go u q (inl k) (inl j) = inl (k ∙ j)

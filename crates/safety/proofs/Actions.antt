@@ -60,7 +60,7 @@ module _ (v : State) (sz : Sized v.own) where
         stays = λ p k. k;
         sets = λ p d h. let e : q ≡ p = cc in subst (λ y. live v y ≡ true) e l;
         point = λ p. inl refl;
-        lock = λ k. inr (λ d. let z : ◌≡◌ {A = ℕ} 0 1 = cc in omega arith, refl);
+        lock = λ k. inr (λ d. cc, refl);
       }
 
   -- one that was unset comes to be set
@@ -76,15 +76,14 @@ module _ (v : State) (sz : Sized v.own) where
         stays = λ p l. elim (ℕ_discrete p q) [ yes d ↦ absurd (was p d l) | no d ↦ rw (get_or-set_other v.own.routes q p routes.Set routes.Unset d) l ];
         sets = λ p d h. let k : q ≡ p = cc in written p k h;
         point = λ p. inl refl;
-        lock = λ l. inr (λ d. let z : ◌≡◌ {A = ℕ} 0 1 = cc in omega arith, refl);
+        lock = λ l. inr (λ d. cc, refl);
       }
     where
       was : (p : ℕ) → p ≡ q → live v p ≡ true → ⊥
       was p d l =
           let w : route_state v.own p ≡ routes.Unset = ap (route_state v.own) d ∙ e in
           let k : not (is_unset routes.Unset) ≡ true = rw w at l in
-          let z : ◌≡◌ {A = ℕ} 0 1 = cc in
-          omega arith
+          cc
 
       not_active : (p : ℕ) → p ≡ q → is_active (get_or (set v.own.routes q routes.Set) p routes.Unset) ≡ is_active (route_state v.own p)
       not_active p d =
@@ -118,13 +117,13 @@ module _ (v : State) (sz : Sized v.own) where
         route = λ p ne. refl;
         active = λ p. refl;
         stays = λ p l. l;
-        sets = λ p d h. absurd (let y : ◌≡◌ {A = ℕ} 0 1 = cc in omega arith);
+        sets = λ p d h. cc;
         point = λ p. inl refl;
         lock = locks;
       }
     where
       locks : (l : Lock) → ((Take (Zone z) ≡ Take l) × (Slot l → is_locked (with_lock v.own (Zone z) true) l ≡ true)) ⊎ ((Take (Zone z) ≡ Take l → ⊥) × (is_locked (with_lock v.own (Zone z) true) l ≡ is_locked v.own l))
-      locks (Subroute u) = inr (λ d. let y : ◌≡◌ {A = ℕ} 0 1 = cc in omega arith, refl)
+      locks (Subroute u) = inr (λ d. cc, refl)
       locks (Zone y) = elim (ℕ_discrete y z) [ yes d ↦ inl (ap (λ k. Take (Zone k)) (sym d), λ h. written y d h) | no d ↦ inr (λ e. d cc, get_or-set_other v.own.zones z y true false d) ]
         where
           written : (y : ℕ) → y ≡ z → y < 32 → get_or (set v.own.zones z true) y false ≡ true
@@ -141,13 +140,13 @@ module _ (v : State) (sz : Sized v.own) where
         route = λ p ne. refl;
         active = λ p. refl;
         stays = λ p l. l;
-        sets = λ p d h. absurd (let y : ◌≡◌ {A = ℕ} 0 1 = cc in omega arith);
+        sets = λ p d h. cc;
         point = λ p. inl refl;
         lock = locks;
       }
     where
       locks : (l : Lock) → ((Take (Subroute u) ≡ Take l) × (Slot l → is_locked (with_lock v.own (Subroute u) true) l ≡ true)) ⊎ ((Take (Subroute u) ≡ Take l → ⊥) × (is_locked (with_lock v.own (Subroute u) true) l ≡ is_locked v.own l))
-      locks (Zone y) = inr (λ d. let y : ◌≡◌ {A = ℕ} 0 1 = cc in omega arith, refl)
+      locks (Zone y) = inr (λ d. cc, refl)
       locks (Subroute y) = elim (ℕ_discrete y u) [ yes d ↦ inl (ap (λ k. Take (Subroute k)) (sym d), λ h. written y d h) | no d ↦ inr (λ e. d cc, get_or-set_other v.own.subroutes u y true false d) ]
         where
           written : (y : ℕ) → y ≡ u → y < 192 → get_or (set v.own.subroutes u true) y false ≡ true
@@ -163,7 +162,7 @@ driven_cases s m p x n e = go (point_refusal s m p) e
     by_side : (c : Bool) → same_position (state_at m p).target x ≡ c → n ≡ cond c m (with_point m p (a_point x (state_at n p).settled)) → (n ≡ m) ⊎ ((b : Bool) × ((state_at m p).target ≢ x) × (n ≡ with_point m p (a_point x b)))
     by_side true d k = inl k
     by_side false d k =
-        inr ((state_at n p).settled, (λ w. let z : true ≡ false = sym ((decides_position (state_at m p).target x).1 w) ∙ d in let y : ◌≡◌ {A = ℕ} 0 1 = cc in omega arith), k)
+        inr ((state_at n p).settled, (λ w. let z : true ≡ false = sym ((decides_position (state_at m p).target x).1 w) ∙ d in cc), k)
 
     go : (d : Option Refusal) → n ≡ refusals.after d m (driven m p x (state_at n p).settled) → (n ≡ m) ⊎ ((b : Bool) × ((state_at m p).target ≢ x) × (n ≡ with_point m p (a_point x b)))
     go None k = by_side (same_position (state_at m p).target x) refl k
@@ -180,9 +179,9 @@ module _ (v w : State) (sz : Sized v.own) (p : ℕ) (x : Position) (own : w.own 
         route = λ q ne. ap (λ y. route_state y q) own;
         active = λ q. ap (λ y. is_active (route_state y q)) own;
         stays = λ q l. ap (λ y. not (is_unset (route_state y q))) own ∙ l;
-        sets = λ q d h. absurd (let y : ◌≡◌ {A = ℕ} 0 1 = cc in omega arith);
+        sets = λ q d h. cc;
         point = λ q. inl (ap (λ y. state_at y q) e);
-        lock = λ l. inr (λ d. let y : ◌≡◌ {A = ℕ} 0 1 = cc in omega arith, ap (λ y. is_locked y l) own);
+        lock = λ l. inr (λ d. cc, ap (λ y. is_locked y l) own);
       }
 
   moved_effect : (b : Bool) → (state_at v.track p).target ≢ x → w.track ≡ with_point v.track p (a_point x b) → Effect (Drive p x) v w
@@ -195,9 +194,9 @@ module _ (v w : State) (sz : Sized v.own) (p : ℕ) (x : Position) (own : w.own 
         route = λ q d. ap (λ y. route_state y q) own;
         active = λ q. ap (λ y. is_active (route_state y q)) own;
         stays = λ q l. ap (λ y. not (is_unset (route_state y q))) own ∙ l;
-        sets = λ q d h. absurd (let y : ◌≡◌ {A = ℕ} 0 1 = cc in omega arith);
+        sets = λ q d h. cc;
         point = λ q. elim (ℕ_discrete q p) [ yes d ↦ inr (x, ap (λ y. Drive y x) (sym d), subst (λ y. (state_at v.track y).target ≢ x) (sym d) ne) | no d ↦ inl (ap (λ y. state_at y q) e ∙ get_or-set_other v.track.points p q (a_point x b) no_state d) ];
-        lock = λ l. inr (λ d. let y : ◌≡◌ {A = ℕ} 0 1 = cc in omega arith, ap (λ y. is_locked y l) own);
+        lock = λ l. inr (λ d. cc, ap (λ y. is_locked y l) own);
       }
 
 -- Each action has such an effect.

@@ -1,5 +1,6 @@
 -- Which routes a passing ends.
 use Rattle.std.proofs.Common.{◌≡◌, ℕ, zero, suc, ◌<◌, ◌≤◌, Bool, true, false, cond, ◌≢◌, ◌⊎◌, length, get_or, set, sym, refl, ap, ◌∙◌, subst, inl, inr, arith, length-set, get_or-set_other, get_or-set_same}
+use Rattle.std.proofs.lemmas.Bool.{both_ways}
 use native.Mathlib.Decide.{ℕ_discrete}
 use Rattle.station.specs.Station.{Station}
 use Rattle.states.specs.Routes.{is_active, next_state}
@@ -9,7 +10,6 @@ use Rattle.states.specs.declared.routes.RouteState.{RouteState}
 use Rattle.states.specs.declared.routes.RouteState.TheVariants as routes
 use Rattle.states.specs.declared.slots.States.{States}
 use Rattle.passing.specs.Signals.{from_signal, passed_routes}
-use Rattle.safety.proofs.Requests.{both}
 
 -- one of the first k routes, active and from the signal, is unset; any other route keeps its state
 abbrev pub RouteAfter : Station → ℕ → States → ℕ → States → ℕ → Type 0
@@ -59,9 +59,9 @@ module _ (s : Station) (n : ℕ) (own : States) (k : ℕ) (old : States) (d : En
 
   -- one more route
   next_route : k < length own.routes → (b : Bool) → from_signal s n k ≡ b → (x : RouteState) → route_state old k ≡ x → Ended s n own (suc k) (cond b (with_next old k (next_state x event.Passing)) old)
-  next_route hk false f x e = skips (λ g h. both g f)
-  next_route hk true f routes.Unset e = skips (λ g h. both h (ap is_active (sym not_yet ∙ e)))
-  next_route hk true f routes.Set e = skips (λ g h. both h (ap is_active (sym not_yet ∙ e)))
+  next_route hk false f x e = skips (λ g h. both_ways _ f g)
+  next_route hk true f routes.Unset e = skips (λ g h. both_ways _ (ap is_active (sym not_yet ∙ e)) h)
+  next_route hk true f routes.Set e = skips (λ g h. both_ways _ (ap is_active (sym not_yet ∙ e)) h)
   next_route hk true f routes.Active e = ends hk f (ap is_active (sym not_yet ∙ e))
 
 -- A passing ends the active routes from the signal, and no others.

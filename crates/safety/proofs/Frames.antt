@@ -1,9 +1,9 @@
 -- What is said of a train whose record stays, when another train's changes.
 use Rattle.std.proofs.Common.{◌≡◌, ℕ, ap, ◌∙◌}
-use Rattle.track.specs.declared.states.Train.{Train}
 use Rattle.safety.proofs.Plan.{Plan}
 use Rattle.safety.proofs.Situation.{Situation, front_of, rear_of, joint_of, with_trains}
 use Rattle.safety.proofs.Invariant.{Owner, OnRoute, Facing}
+use Rattle.track.specs.Trains.{Train}
 
 module _ (S : Plan) (st : Situation) (trains : ℕ → Train) (t : ℕ) (e : trains t ≡ st.trains t) where
   pub frame_route : (owner : ℕ → Owner) (r k : ℕ) → OnRoute S st owner t r k → OnRoute S (with_trains st trains) owner t r k

@@ -1,5 +1,6 @@
 -- An activation, a release and a settling on a state are such by number.
 use Rattle.std.proofs.Common.{◌≡◌, ℕ, ◌<◌, true, not, eqb, ltb, List, [], ◌∷◌, ◌++◌, length, get_or, set, Some, None, Err, Contains, Option, Result, sym, refl, ap, ◌∙◌, subst, inl, inr, arith, length-set, get_or-set_other, get_or-set_same, eq-eqb, eqb-true}
+use Rattle.std.proofs.lemmas.Option.{none-some}
 use native.Mathlib.Decide.{ℕ_discrete}
 use Rattle.std.proofs.lemmas.Bool.{and_parts, lt-ltb, ltb-true}
 use Rattle.station.specs.Station.{Station}
@@ -14,7 +15,7 @@ use Rattle.track.specs.Meaning.{state_at, train_at, with_aspect}
 use Rattle.track.specs.Ways.{is_stop}
 use Rattle.track.specs.declared.states.Aspect.{Aspect}
 use Rattle.track.specs.declared.states.Aspect.TheVariants.{Stop, Proceed}
-use Rattle.states.specs.Denials.{after, answer}
+use Rattle.track.specs.Refusals.{after, answer}
 use Rattle.states.specs.Routes.{is_unset, is_active, next_state}
 use Rattle.states.specs.Slots.{route_state, is_locked, with_route}
 use Rattle.states.specs.declared.denials.Denial.{Denial}
@@ -36,7 +37,7 @@ use Rattle.safety.proofs.Grants.{Activation}
 use Rattle.safety.proofs.Locks.{activation_keeps}
 use Rattle.safety.proofs.Stations.{plan, known_facts, governor_is, governed}
 use Rattle.safety.proofs.Kept.{Kept, Next, view, told, unchanged}
-use Rattle.safety.proofs.Rows.{row_holds, lies_is, some_none}
+use Rattle.safety.proofs.Rows.{row_holds, lies_is}
 use Rattle.safety.proofs.Denied.{passed_test, no_test_fails}
 use Rattle.safety.proofs.Requesting.{few_routes}
 
@@ -125,9 +126,9 @@ module _ (s : Station) (keeps : Sound s) (facts : Consequences s) (v : State) (h
     active_is = rw (set_was, starts, shown_is n Proceed hn)
 
   event_fits : (x : RouteState) (rest : Option Denial) → on_event (next_state x event.Activation) rest ≡ None → (x ≡ routes.Set) × (rest ≡ None)
-  event_fits routes.Unset rest e = absurd (some_none e)
+  event_fits routes.Unset rest e = absurd (none-some _ (sym e))
   event_fits routes.Set rest e = (refl, e)
-  event_fits routes.Active rest e = absurd (some_none e)
+  event_fits routes.Active rest e = absurd (none-some _ (sym e))
 
   -- An activation keeps what is kept, granted or refused.
   pub activation_next : (r : ℕ) (x : Result Unit Denial) (w : State) → Activates s v r x w → (a : Answer) → a ≡ done_answer x → Next s v w (where_done a (histories.activated r ∷ []) ++ h)

@@ -2,7 +2,8 @@
 use Rattle.std.proofs.Common.{◌≡◌, ℕ, suc, ◌<◌, ◌≤◌, true, false, [], Some, None}
 use Rattle.station.specs.declared.tables.Beyond.TheVariants.{Segment}
 use Rattle.safety.proofs.Plan.{Plan}
-use Rattle.safety.proofs.Situation.{Situation, Told, Held, Lying, front_of, rear_of, joint_of, derailed, firsts}
+use Rattle.safety.specs.Safety.{is_derailed}
+use Rattle.safety.proofs.Situation.{Situation, Told, Held, Lying, front_of, rear_of, joint_of, firsts}
 
 -- who claims a segment: a route that is set or active claims its whole path,
 -- a train the segments that it holds and those ahead on its path
@@ -97,7 +98,7 @@ pub record Invariant (S : Plan) (st : Situation) (T : Told) (g : Ghost) : Type 0
   pub open_way : (r : ℕ) → st.active r ≡ true → Open S st T r
   pub signal : (n : ℕ) → st.proceed n ≡ true → (r : ℕ) × (st.active r ≡ true) × (S.starts r n ≡ true)
   pub held : (t x : ℕ) → Held (st.trains t) x → Guarded S st g.owner t x
-  pub on_track : (t : ℕ) → derailed (st.trains t) ≡ false
+  pub on_track : (t : ℕ) → is_derailed (st.trains t) ≡ false
   pub moving : (t f r k : ℕ) → front_of (st.trains t) ≡ Some f → g.progress t ≡ on r k → OnRoute S st g.owner t r k
   pub resting : (t f : ℕ) → front_of (st.trains t) ≡ Some f → g.progress t ≡ none → Facing S st t f
   pub following : (t r k : ℕ) → g.progress t ≡ on r k → Following S T t r k

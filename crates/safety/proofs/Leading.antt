@@ -1,5 +1,6 @@
 -- The way that fits a train, as a subroute that starts where the train came in.
 use Rattle.std.proofs.Common.{◌≡◌, ℕ, ◌+◌, ◌*◌, ◌/◌, ◌%◌, ◌<◌, Bool, true, false, cond, ◌≢◌, ◌⊎◌, length, Some, None, Option, sym, ◌∙◌, subst, inl, inr, arith, eq-eqb, ne_eqb, MatchOption}
+use Rattle.std.proofs.lemmas.Option.{none-some}
 use native.Mathlib.Decide.{ℕ_discrete}
 use Rattle.station.specs.Station.{Station}
 use Rattle.station.specs.Numbers.{way_at}
@@ -10,7 +11,6 @@ use Rattle.track.proofs.Fitting.{leads_out}
 use Rattle.conditions.specs.States.{State}
 use Rattle.safety.proofs.Moves.{Fitting}
 use Rattle.safety.proofs.Kept.{view}
-use Rattle.safety.proofs.Rows.{some_none}
 use Rattle.safety.proofs.Stations.{plan}
 
 module _ (s : Station) (v : State) (x j w k : ℕ) (f : Fits s v.track x j w) (onto : other_end (way_at s w) j ≡ k) where
@@ -59,12 +59,12 @@ module _ (s : Station) (v : State) (x j w k : ℕ) (f : Fits s v.track x j w) (o
 
 module _ (s : Station) (facts : Consequences s) (v : State) (x j : ℕ) where
   found : (o : Option ℕ) (k : ℕ) → MatchOption o ((w : ℕ) → Fits s v.track x j w → ⊥) (LeadsOut s v.track x j) → o ≡ Some k → LeadsOut s v.track x j k
-  found None k h e = absurd (some_none (sym e))
+  found None k h e = absurd (none-some _ e)
   found (Some i) k h e = let d : i ≡ k = cc in subst (LeadsOut s v.track x j) d h
 
   missed : (o : Option ℕ) → MatchOption o ((w : ℕ) → Fits s v.track x j w → ⊥) (LeadsOut s v.track x j) → o ≡ None → (w : ℕ) → Fits s v.track x j w → ⊥
   missed None h e = h
-  missed (Some i) h e = absurd (some_none e)
+  missed (Some i) h e = absurd (none-some _ (sym e))
 
   -- A train that leads out by a joint has a subroute that fits and ends there.
   pub leads_by : (k : ℕ) → way_out s v.track x j ≡ Some k → (u : ℕ) × Fitting (plan s) (view v) x j u × (end s u ≡ k)

@@ -1,12 +1,11 @@
 -- An activation, a release and a settling keep the invariant.
 use Rattle.std.proofs.Common.{◌≡◌, ℕ, zero, suc, ◌<◌, ◌≤◌, true, ◌≢◌, ◌⊎◌, sym, refl, ap, ◌∙◌, subst, inl, inr, arith}
 use native.Mathlib.Decide.{ℕ_discrete}
-use Rattle.std.proofs.lemmas.Bool.{cases_Bool}
+use Rattle.std.proofs.lemmas.Bool.{cases_Bool, both_ways}
 use Rattle.safety.proofs.Plan.{Plan, Facts}
 use Rattle.safety.proofs.Situation.{Situation, Told, told_activation, Held, Lying, with_locks, with_points}
 use Rattle.safety.proofs.Invariant.{route, Ghost, OnRoute, Open, Invariant}
 use Rattle.safety.proofs.Grants.{Activation, activated, Release, Settling}
-use Rattle.safety.proofs.Requests.{both}
 
 module _ (S : Plan) (ok : Facts S) (st : Situation) (T : Told) (g : Ghost) (inv : Invariant S st T g) where
   -- two routes from one signal are not set or active at once: they would claim one segment
@@ -67,10 +66,10 @@ module _ (S : Plan) (ok : Facts S) (st : Situation) (T : Told) (g : Ghost) (inv 
 
   -- the released one is no place of a path that is set or active: the route or the place before it would be in the way
   not_granted : (q i : ℕ) → st.live q ≡ true → i < S.len q → S.sub q i ≡ u → ⊥
-  not_granted q zero live hi e = both live (m.starts q (inv.granted q live).r_known e)
+  not_granted q zero live hi e = both_ways _ (m.starts q (inv.granted q live).r_known e) live
   not_granted q (suc i) live hi e =
       let o = inv.granted q live in
-      both (o.locked i (omega arith)) (m.follows q i o.r_known hi e)
+      both_ways _ (m.follows q i o.r_known hi e) (o.locked i (omega arith))
 
   not_held : (t x q i : ℕ) → q < S.routes → i < S.len q → S.seg (S.sub q i) ≡ x → Held (st.trains t) x → S.sub q i ≡ u → ⊥
   not_held t x q i hq hi e h d = m.clear q i hq hi d t (subst (λ y. Held (st.trains t) y) (sym e ∙ ap S.seg d) h)
@@ -82,7 +81,7 @@ module _ (S : Plan) (ok : Facts S) (st : Situation) (T : Told) (g : Ghost) (inv 
     where
       later : (j : ℕ) → S.sub q j ≡ u → k ≤ j → j < S.len q → j ≢ k → ⊥
       later zero e a b w = w (omega arith)
-      later (suc j) e a b w = both (o.locked j (omega arith) (omega arith)) (m.follows q j o.r_known b e)
+      later (suc j) e a b w = both_ways _ (m.follows q j o.r_known b e) (o.locked j (omega arith) (omega arith))
 
   -- A release keeps the invariant: nothing that is claimed is released.
   pub release_keeps : Invariant S (with_locks st m.locked) T g
@@ -124,7 +123,7 @@ module _ (S : Plan) (ok : Facts S) (st : Situation) (T : Told) (g : Ghost) (inv 
 
 module _ (S : Plan) (ok : Facts S) (st : Situation) (T : Told) (g : Ghost) (inv : Invariant S st T g) (p : ℕ) (m : Settling st p) where
   point_stays : (q : ℕ) → (st.points q).settled ≡ true → m.points q ≡ st.points q
-  point_stays q e = elim (m.points_are q) [ inl a ↦ absurd (both e (ap (λ y. (st.points y).settled) a ∙ m.was)) | inr a ↦ a ]
+  point_stays q e = elim (m.points_are q) [ inl a ↦ absurd (both_ways _ (ap (λ y. (st.points y).settled) a ∙ m.was) e) | inr a ↦ a ]
 
   lying_stays : (v : ℕ) → Lying S st v → Lying S (with_points st m.points) v
   lying_stays v ps x hx =

@@ -1,11 +1,10 @@
 -- What the calls that move a train come to.
 use Rattle.std.proofs.Common.{◌≡◌, ℕ, ◌<◌, Bool, true, false, ◌≢◌, ◌⊎◌, Some, None}
 use Rattle.station.specs.declared.tables.Beyond.TheVariants.{Segment}
-use Rattle.track.specs.Trains.{come_in, gone_on}
-use Rattle.track.specs.declared.states.Front.TheVariants.{In}
-use Rattle.track.specs.declared.states.Train.{Train}
+use Rattle.track.specs.Trains.{come_in, gone_on, Train}
 use Rattle.safety.proofs.Plan.{Plan}
-use Rattle.safety.proofs.Situation.{Situation, Held, Lying, Upd, front_of, rear_of, joint_of, derailed}
+use Rattle.safety.specs.Safety.{is_derailed}
+use Rattle.safety.proofs.Situation.{Situation, Held, Lying, Upd, front_of, rear_of, joint_of}
 
 -- the way that fits, as a subroute that starts at the joint
 pub record Fitting (S : Plan) (st : Situation) (f j v : ℕ) : Type 0 where
@@ -35,7 +34,7 @@ pub record Passing (S : Plan) (st : Situation) (t n x : ℕ) : Type 0 where
   pub new : Train
   pub new_front : front_of new ≡ Some x
   pub new_joint : joint_of new ≡ j
-  pub new_sound : derailed new ≡ false
+  pub new_sound : is_derailed new ≡ false
   pub new_rear : (b : ℕ) → rear_of new ≡ Some b → Held (st.trains t) b
   pub trains : ℕ → Train
   pub trains_are : Upd st.trains trains t new
@@ -50,12 +49,12 @@ pub record Onward (S : Plan) (st : Situation) (t x : ℕ) : Type 0 where
   pub into : S.beyond (S.to v) f ≡ Segment x
   pub unsignalled : S.signal (S.to v) x ≡ None
   pub trains : ℕ → Train
-  pub trains_are : Upd st.trains trains t (gone_on (In x) (S.to v) f)
+  pub trains_are : Upd st.trains trains t (gone_on (Some x) (S.to v) f)
 
 -- A front to the outside, or a rear: the train holds no more than before, and where its front is in a segment it gave up a rear.
 pub record Shrinking (st : Situation) (t : ℕ) : Type 0 where
   pub new : Train
-  pub sound : derailed new ≡ false
+  pub sound : is_derailed new ≡ false
   pub less : (x : ℕ) → Held new x → Held (st.trains t) x
   pub front_was : (f : ℕ) → front_of new ≡ Some f → front_of (st.trains t) ≡ Some f
   pub joint_was : (f : ℕ) → front_of new ≡ Some f → joint_of new ≡ joint_of (st.trains t)

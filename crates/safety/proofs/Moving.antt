@@ -9,12 +9,9 @@ use Rattle.station.specs.declared.tests.Lock.TheVariants.{Zone, Subroute}
 use Rattle.acceptance.specs.Soundness.{Sound}
 use Rattle.acceptance.specs.Consequences.{Consequences, Covering}
 use Rattle.track.specs.Meaning.{aspect_at, state_at, train_at, with_aspect, with_train}
-use Rattle.track.specs.Trains.{come_in, gone_on}
+use Rattle.track.specs.Trains.{come_in, gone_on, Train}
 use Rattle.track.specs.Ways.{governor, is_stop, way_out}
 use Rattle.track.specs.declared.states.Aspect.TheVariants.{Stop}
-use Rattle.track.specs.declared.states.Front.TheVariants.{In}
-use Rattle.track.specs.declared.states.Train.{Train}
-use Rattle.track.specs.declared.states.Train.TheVariants.{Absent}
 use Rattle.states.specs.Routes.{is_active, is_unset}
 use Rattle.states.specs.Slots.{is_locked, route_state}
 use Rattle.states.specs.declared.slots.Note.{Note}
@@ -23,7 +20,8 @@ use Rattle.conditions.specs.States.{State, a_state}
 use Rattle.conditions.specs.Tests.{is_free}
 use Rattle.passing.specs.Signals.{passed_routes}
 use Rattle.safety.specs.Histories.{History, entered, passed, turned}
-use Rattle.safety.proofs.Situation.{Held, Upd, front_of, joint_of, rear_of, derailed}
+use Rattle.safety.specs.Safety.{is_derailed}
+use Rattle.safety.proofs.Situation.{Held, Upd, front_of, joint_of, rear_of}
 use Rattle.safety.proofs.Invariant.{Invariant}
 use Rattle.safety.proofs.Moves.{Onward, Passed, Passing, Shrinking, Turning, with_passing}
 use Rattle.safety.proofs.Onwards.{onward_keeps}
@@ -48,19 +46,19 @@ module _ (s : Station) (keeps : Sound s) (facts : Consequences s) (v : State) (h
     in_table : t < length v.track.trains
     in_table = let c = kept.sixteen in omega arith
 
-    trains_are : Upd (view v).trains (λ u. get_or (set v.track.trains t new) u Absent) t new
-    trains_are = written (λ y. y) v.track.trains t new Absent in_table
+    trains_are : Upd (view v).trains (λ u. get_or (set v.track.trains t new) u None) t new
+    trains_are = written (λ y. y) v.track.trains t new None in_table
 
     -- the train's new record
     pub record_is : train_at (with_train v.track t new) t ≡ new
-    record_is = get_or-set_same v.track.trains t new Absent in_table
+    record_is = get_or-set_same v.track.trains t new None in_table
 
     -- the train's record changes, and of the machine's own only what is noted
     abbrev pub changed : List (Option Note) → State
     changed notes = a_state (record { routes = v.own.routes; subroutes = v.own.subroutes; zones = v.own.zones; notes = notes }) (with_train v.track t new)
 
     -- a front to the outside, or a rear
-    module _ (notes : List (Option Note)) (sound : derailed new ≡ false) (less : (x : ℕ) → Held new x → Held (train_at v.track t) x) (front_was : (f : ℕ) → front_of new ≡ Some f → front_of (train_at v.track t) ≡ Some f) (joint_was : (f : ℕ) → front_of new ≡ Some f → joint_of new ≡ joint_of (train_at v.track t)) (rear_was : (f : ℕ) → front_of new ≡ Some f → rear_of (train_at v.track t) ≢ None) where
+    module _ (notes : List (Option Note)) (sound : is_derailed new ≡ false) (less : (x : ℕ) → Held new x → Held (train_at v.track t) x) (front_was : (f : ℕ) → front_of new ≡ Some f → front_of (train_at v.track t) ≡ Some f) (joint_was : (f : ℕ) → front_of new ≡ Some f → joint_of new ≡ joint_of (train_at v.track t)) (rear_was : (f : ℕ) → front_of new ≡ Some f → rear_of (train_at v.track t) ≢ None) where
       shrinking : Shrinking (view v) t
       shrinking =
           record {
@@ -70,7 +68,7 @@ module _ (s : Station) (keeps : Sound s) (facts : Consequences s) (v : State) (h
             front_was = front_was;
             joint_was = joint_was;
             rear_was = rear_was;
-            trains = λ u. get_or (set v.track.trains t new) u Absent;
+            trains = λ u. get_or (set v.track.trains t new) u None;
             trains_are = trains_are;
           }
 
@@ -102,11 +100,11 @@ module _ (s : Station) (keeps : Sound s) (facts : Consequences s) (v : State) (h
           fits = l.1;
           into = ap (λ y. across s y x) l.2 ∙ over;
           unsignalled = ap (λ y. governor s y u) l.2 ∙ none;
-          trains = λ y. get_or (set v.track.trains t (gone_on (In u) k x)) y Absent;
-          trains_are = subst (λ y. Upd (view v).trains (λ i. get_or (set v.track.trains t (gone_on (In u) k x)) i Absent) t (gone_on (In u) y x)) (sym l.2) (trains_are t ht (gone_on (In u) k x));
+          trains = λ y. get_or (set v.track.trains t (gone_on (Some u) k x)) y None;
+          trains_are = subst (λ y. Upd (view v).trains (λ i. get_or (set v.track.trains t (gone_on (Some u) k x)) i None) t (gone_on (Some u) y x)) (sym l.2) (trains_are t ht (gone_on (Some u) k x));
         }
 
-    pub goes_on : Next s v (changed t ht (gone_on (In u) k x) notes) (entered t u ∷ h)
+    pub goes_on : Next s v (changed t ht (gone_on (Some u) k x) notes) (entered t u ∷ h)
     unfolding onward
     goes_on =
         let n = onward_keeps (plan s) (known_facts s keeps facts) (view v) (told s h) kept.ghost kept.inv t u onward in (
@@ -137,8 +135,8 @@ module _ (s : Station) (keeps : Sound s) (facts : Consequences s) (v : State) (h
           fits = l.1;
           behind = behind;
           signal = signal;
-          trains = λ i. get_or (set v.track.trains t (come_in x k)) i Absent;
-          trains_are = subst (λ z. Upd (view v).trains (λ i. get_or (set v.track.trains t (come_in x k)) i Absent) t (come_in x z)) (sym l.2) (trains_are t ht (come_in x k));
+          trains = λ i. get_or (set v.track.trains t (come_in x k)) i None;
+          trains_are = subst (λ z. Upd (view v).trains (λ i. get_or (set v.track.trains t (come_in x k)) i None) t (come_in x z)) (sym l.2) (trains_are t ht (come_in x k));
         }
 
     pub turns_round : Next s v (changed t ht (come_in x k) notes) (turned t ∷ h)
@@ -158,7 +156,7 @@ module _ (s : Station) (keeps : Sound s) (facts : Consequences s) (v : State) (h
         )
 
   -- a passing of the signal n into the segment x
-  module _ (t : ℕ) (ht : t < 16) (n j x : ℕ) (new : Train) (there : governor s j x ≡ Some n) (proceeds : is_stop (aspect_at v.track n) ≡ false) (new_front : front_of new ≡ Some x) (new_joint : joint_of new ≡ j) (new_sound : derailed new ≡ false) (new_rear : (b : ℕ) → rear_of new ≡ Some b → Held (train_at v.track t) b) (notes : List (Option Note)) where
+  module _ (t : ℕ) (ht : t < 16) (n j x : ℕ) (new : Train) (there : governor s j x ≡ Some n) (proceeds : is_stop (aspect_at v.track n) ≡ false) (new_front : front_of new ≡ Some x) (new_joint : joint_of new ≡ j) (new_sound : is_derailed new ≡ false) (new_rear : (b : ℕ) → rear_of new ≡ Some b → Held (train_at v.track t) b) (notes : List (Option Note)) where
     abbrev own' : States
     own' = passed_routes s n v.own (length s.routes)
 
@@ -190,7 +188,7 @@ module _ (s : Station) (keeps : Sound s) (facts : Consequences s) (v : State) (h
           new_joint = new_joint;
           new_sound = new_sound;
           new_rear = new_rear;
-          trains = λ u. get_or (set v.track.trains t new) u Absent;
+          trains = λ u. get_or (set v.track.trains t new) u None;
           trains_are = trains_are t ht new;
         }
 
@@ -202,7 +200,7 @@ module _ (s : Station) (keeps : Sound s) (facts : Consequences s) (v : State) (h
     locks_same (Zone z) = ap (λ y. get_or y z false) ended.zones
     locks_same (Subroute u) = ap (λ y. get_or y u false) ended.subroutes
 
-    view_is : with_passing (view v) by_passing (λ u. get_or (set v.track.trains t new) u Absent) ≡ view after_passing
+    view_is : with_passing (view v) by_passing (λ u. get_or (set v.track.trains t new) u None) ≡ view after_passing
     unfolding by_passing
     view_is = λ i. record {
       live = λ r. not (is_unset (route_state own' r));
@@ -210,7 +208,7 @@ module _ (s : Station) (keeps : Sound s) (facts : Consequences s) (v : State) (h
       locked = λ u. sym (locks_same (Subroute u)) i;
       points = λ p. state_at v.track p;
       proceed = λ k. not (is_stop (get_or (set v.track.signals n Stop) k Stop));
-      trains = λ u. get_or (set v.track.trains t new) u Absent;
+      trains = λ u. get_or (set v.track.trains t new) u None;
     }
 
     covers_after : Covering s (is_free after_passing.own)

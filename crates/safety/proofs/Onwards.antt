@@ -1,9 +1,9 @@
 -- A front past no signal keeps the invariant.
 use Rattle.std.proofs.Common.{◌≡◌, ℕ, suc, ◌<◌, [], Some, None, sym, refl, ap, ◌∙◌, subst, inl, inr, arith, eq-eqb, ne_eqb}
 use Rattle.track.specs.Trains.{gone_on}
-use Rattle.track.specs.declared.states.Front.TheVariants.{In}
 use Rattle.safety.proofs.Plan.{Plan, Facts}
-use Rattle.safety.proofs.Situation.{Situation, Told, told_entering, Held, front_of, joint_of, derailed, put, put_is, with_trains}
+use Rattle.safety.specs.Safety.{is_derailed}
+use Rattle.safety.proofs.Situation.{Situation, Told, told_entering, Held, front_of, joint_of, put, put_is, with_trains}
 use Rattle.safety.proofs.Invariant.{train, Progress, none, on, Ghost, Guarded, OnRoute, Facing, Following, Invariant}
 use Rattle.safety.proofs.Moves.{Onward}
 use Rattle.safety.proofs.Ways.{faces, next_place}
@@ -31,7 +31,7 @@ module _ (S : Plan) (ok : Facts S) (st : Situation) (T : Told) (g : Ghost) (inv 
     place : (suc k < S.len r) × (x ≡ S.seg (S.sub r (suc k))) × (S.to m.v ≡ S.from (S.sub r (suc k)))
     place = next_place S ok st g.owner t m.f m.j m.v x r k m.was o m.fits m.into m.unsignalled
 
-    at_place : (u : ℕ) → u ≡ t → m.trains u ≡ gone_on (In x) (S.to m.v) m.f → OnRoute S st' g.owner u r (suc k)
+    at_place : (u : ℕ) → u ≡ t → m.trains u ≡ gone_on (Some x) (S.to m.v) m.f → OnRoute S st' g.owner u r (suc k)
     unfolding st'
     at_place u e w =
         let pl = place in
@@ -45,7 +45,7 @@ module _ (S : Plan) (ok : Facts S) (st : Situation) (T : Told) (g : Ghost) (inv 
           owned = λ i a b. o.owned i (omega arith) b ∙ ap train (sym e);
         }
 
-    new_held : (y : ℕ) → Held (gone_on (In x) (S.to m.v) m.f) y → Guarded S st g.owner t y
+    new_held : (y : ℕ) → Held (gone_on (Some x) (S.to m.v) m.f) y → Guarded S st g.owner t y
     new_held y (inl e) =
         let pl = place in
         let es : S.seg (S.sub r (suc k)) ≡ y = cc in
@@ -89,7 +89,7 @@ module _ (S : Plan) (ok : Facts S) (st : Situation) (T : Told) (g : Ghost) (inv 
     unfolding st' progress'
     keep_resting u f h n =
         elim (put_is g.progress t (on r (suc k)) u) [
-          | inl b ↦ absurd (let c : on r (suc k) ≡ none = sym b.1 ∙ n in let y : ◌≡◌ {A = ℕ} 0 1 = cc in omega arith)
+          | inl b ↦ absurd (let c : on r (suc k) ≡ none = sym b.1 ∙ n in cc)
           | inr b ↦ elim (m.trains_are u) [
             | inl a ↦ absurd (b.0 a.0)
             | inr a ↦ frame_facing S st m.trains u a.1 f (inv.resting u f (ap front_of (sym a.1) ∙ h) (sym b.1 ∙ n))
@@ -121,7 +121,7 @@ module _ (S : Plan) (ok : Facts S) (st : Situation) (T : Told) (g : Ghost) (inv 
     unfolding progress' T'
     keep_idle u n =
         elim (put_is g.progress t (on r (suc k)) u) [
-          | inl b ↦ absurd (let c : on r (suc k) ≡ none = sym b.1 ∙ n in let y : ◌≡◌ {A = ℕ} 0 1 = cc in omega arith)
+          | inl b ↦ absurd (let c : on r (suc k) ≡ none = sym b.1 ∙ n in cc)
           | inr b ↦ let old = inv.idle u (sym b.1 ∙ n) in (rw (ne_eqb u t b.0) old.0, old.1)
         ]
 
@@ -133,7 +133,7 @@ module _ (S : Plan) (ok : Facts S) (st : Situation) (T : Told) (g : Ghost) (inv 
           open_way = inv.open_way;
           signal = inv.signal;
           held = keep_held;
-          on_track = λ u. elim (m.trains_are u) [ inl a ↦ ap derailed a.1 | inr a ↦ ap derailed a.1 ∙ inv.on_track u ];
+          on_track = λ u. elim (m.trains_are u) [ inl a ↦ ap is_derailed a.1 | inr a ↦ ap is_derailed a.1 ∙ inv.on_track u ];
           moving = keep_moving;
           resting = keep_resting;
           following = keep_following;

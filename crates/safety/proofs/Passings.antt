@@ -1,38 +1,26 @@
 -- A passing of a signal, by entry or front, keeps the invariant.
-use Rattle.std.proofs.Common.{◌≡◌, ℕ, ◌<◌, true, ◌≢◌, [], Some, None, sym, refl, ap, ◌∙◌, subst, inl, inr, arith, eq-eqb, ne_eqb}
-use native.Mathlib.Decide.{ℕ_discrete}
+use Rattle.std.proofs.Common.{◌≡◌, ℕ, ◌<◌, true, cond, eqb, ◌≢◌, [], Some, None, sym, refl, ap, ◌∙◌, subst, inl, inr, eq-eqb, ne_eqb}
+use Rattle.std.proofs.lemmas.Bool.{both_ways}
 use Rattle.safety.proofs.Plan.{Plan, Facts}
-use Rattle.safety.proofs.Situation.{Situation, Told, told_passing, Held, front_of, joint_of, derailed, put, put_is}
+use Rattle.safety.specs.Safety.{is_derailed}
+use Rattle.safety.proofs.Situation.{Situation, Told, told_passing, Held, front_of, joint_of, put, put_is}
 use Rattle.safety.proofs.Invariant.{Owner, nobody, route, train, Progress, none, on, Ghost, Guarded, OnRoute, Facing, Granted, Open, Following, Invariant}
 use Rattle.safety.proofs.Moves.{Passing, with_passing}
-use Rattle.safety.proofs.Requests.{both}
 use Rattle.safety.proofs.Frames.{frame_route, frame_facing}
-
-pick : {A B : Type 0} → Dec A → B → B → B
-pick (yes a) x y = x
-pick (no n) x y = y
 
 -- the train t takes over what the route r claims
 takes : ℕ → ℕ → Owner → Owner
 takes r t nobody = nobody
 takes r t (train u) = train u
-takes r t (route q) = pick (ℕ_discrete q r) (train t) (route q)
+takes r t (route q) = cond (eqb q r) (train t) (route q)
 
 takes_it : (r t : ℕ) → takes r t (route r) ≡ train t
-unfolding takes pick
-takes_it r t = go (ℕ_discrete r r)
-  where
-    go : (d : Dec (r ≡ r)) → pick d (train t) (route r) ≡ train t
-    go (yes e) = refl
-    go (no n) = absurd (n refl)
+unfolding takes
+takes_it r t = rw (eq-eqb r r refl)
 
 takes_not : (r t q : ℕ) → q ≢ r → takes r t (route q) ≡ route q
-unfolding takes pick
-takes_not r t q ne = go (ℕ_discrete q r)
-  where
-    go : (d : Dec (q ≡ r)) → pick d (train t) (route q) ≡ route q
-    go (yes e) = absurd (ne e)
-    go (no n) = refl
+unfolding takes
+takes_not r t q ne = rw (ne_eqb q r ne)
 
 takes_train : (r t u : ℕ) → takes r t (train u) ≡ train u
 unfolding takes
@@ -79,7 +67,7 @@ module _ (S : Plan) (ok : Facts S) (st : Situation) (T : Told) (g : Ghost) (inv 
     unfolding st' owner'
     keep_granted q l =
         elim (m.passed.routes_are q) [
-          | inl a ↦ absurd (both l a.3)
+          | inl a ↦ absurd (both_ways _ a.3 l)
           | inr a ↦
               let o = inv.granted q (sym a.2 ∙ l) in
               let ne : q ≢ r = λ e. a.0 (ap st.active e ∙ ac) (ap (λ y. S.starts y n) e ∙ sg) in
@@ -90,14 +78,14 @@ module _ (S : Plan) (ok : Facts S) (st : Situation) (T : Told) (g : Ghost) (inv 
     unfolding st' T'
     keep_open q e =
         elim (m.passed.routes_are q) [
-          | inl a ↦ absurd (both e a.2)
+          | inl a ↦ absurd (both_ways _ a.2 e)
           | inr a ↦ let o = inv.open_way q (sym a.1 ∙ e) in record { live = a.2 ∙ o.live; points = o.points; latest = o.latest }
         ]
 
     keep_signal : (n' : ℕ) → m.passed.proceed n' ≡ true → (q : ℕ) × (m.passed.active q ≡ true) × (S.starts q n' ≡ true)
     keep_signal n' l =
         elim (m.passed.proceed_is n') [
-          | inl a ↦ absurd (both l a.1)
+          | inl a ↦ absurd (both_ways _ a.1 l)
           | inr a ↦
               let w = inv.signal n' (sym a.1 ∙ l) in
               elim (m.passed.routes_are w.0) [ inl b ↦ absurd (a.0 (other w.0 n' b.0 b.1 w.2)) | inr b ↦ (w.0, b.1 ∙ w.1, w.2) ]
@@ -184,7 +172,7 @@ module _ (S : Plan) (ok : Facts S) (st : Situation) (T : Told) (g : Ghost) (inv 
     unfolding st' progress'
     keep_resting u f w h =
         elim (put_is g.progress t (on r 0) u) [
-          | inl b ↦ absurd (let c : on r 0 ≡ none = sym b.1 ∙ h in let y : ◌≡◌ {A = ℕ} 0 1 = cc in omega arith)
+          | inl b ↦ absurd (let c : on r 0 ≡ none = sym b.1 ∙ h in cc)
           | inr b ↦ elim (m.trains_are u) [ inl a ↦ absurd (b.0 a.0) | inr a ↦ frame_facing S st m.trains u a.1 f (inv.resting u f (ap front_of (sym a.1) ∙ w) (sym b.1 ∙ h)) ]
         ]
 
@@ -218,7 +206,7 @@ module _ (S : Plan) (ok : Facts S) (st : Situation) (T : Told) (g : Ghost) (inv 
     unfolding progress' T'
     keep_idle u h =
         elim (put_is g.progress t (on r 0) u) [
-          | inl b ↦ absurd (let c : on r 0 ≡ none = sym b.1 ∙ h in let y : ◌≡◌ {A = ℕ} 0 1 = cc in omega arith)
+          | inl b ↦ absurd (let c : on r 0 ≡ none = sym b.1 ∙ h in cc)
           | inr b ↦ let old = inv.idle u (sym b.1 ∙ h) in (rw (ne_eqb u t b.0) old.0, rw (ne_eqb u t b.0) old.1)
         ]
 
@@ -230,7 +218,7 @@ module _ (S : Plan) (ok : Facts S) (st : Situation) (T : Told) (g : Ghost) (inv 
           open_way = keep_open;
           signal = keep_signal;
           held = keep_held;
-          on_track = λ u. elim (m.trains_are u) [ inl a ↦ ap derailed a.1 ∙ m.new_sound | inr a ↦ ap derailed a.1 ∙ inv.on_track u ];
+          on_track = λ u. elim (m.trains_are u) [ inl a ↦ ap is_derailed a.1 ∙ m.new_sound | inr a ↦ ap is_derailed a.1 ∙ inv.on_track u ];
           moving = keep_moving;
           resting = keep_resting;
           following = keep_following;

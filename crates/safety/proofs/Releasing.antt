@@ -2,7 +2,7 @@
 use Rattle.std.proofs.Common.{◌≡◌, ℕ, suc, ◌-◌, ◌<◌, Bool, true, false, ◌&&◌, ltb, [], length, get_or, set, Some, None, Contains, Option, Result, sym, refl, ap, ◌∙◌, subst, inl, inr, arith, length-set, get_or-set_other}
 use native.Mathlib.Decide.{ℕ_discrete}
 use borrow.Author.Tests.{not-true}
-use Rattle.std.proofs.lemmas.Bool.{ltb-true, not_from_false, not_from_true}
+use Rattle.std.proofs.lemmas.Bool.{ltb-true, not_from_false, not_from_true, both_ways}
 use Rattle.station.specs.Station.{Station}
 use Rattle.station.specs.Numbers.{point_at, release_at, zone_at}
 use Rattle.station.specs.Subroutes.{subroutes, segment_of}
@@ -13,12 +13,11 @@ use Rattle.station.specs.declared.tests.ReleaseTest.{ReleaseTest}
 use Rattle.station.specs.declared.tests.ReleaseTest.TheVariants as release
 use Rattle.acceptance.specs.Soundness.{Sound}
 use Rattle.acceptance.specs.Consequences.{Consequences, Covering}
-use Rattle.track.specs.Calls.{settled_so}
+use Rattle.track.specs.Calls.{said, settled_so}
 use Rattle.track.specs.Meaning.{a_point, fits, no_state, state_at, train_at, with_point}
-use Rattle.track.specs.Refusals as refusals
 use Rattle.track.specs.declared.refusals.Refusal.{Refusal}
 use Rattle.track.specs.declared.states.PointState.{PointState}
-use Rattle.states.specs.Denials.{after}
+use Rattle.track.specs.Refusals.{after}
 use Rattle.states.specs.Slots.{is_locked, with_lock}
 use Rattle.states.specs.declared.denials.Denial.{Denial}
 use Rattle.conditions.specs.States.{State, a_state}
@@ -26,12 +25,11 @@ use Rattle.conditions.specs.Tests.{is_free, release_holds}
 use Rattle.passing.specs.Locks.{has_slots, is_declared}
 use Rattle.calls.specs.Grants.{Releases, release_denial, released}
 use Rattle.calls.specs.Moves as moves
-use Rattle.calls.specs.Moves.{said_so, settling_refusal}
+use Rattle.calls.specs.Moves.{settling_refusal}
 use Rattle.safety.specs.Histories.{History}
 use Rattle.safety.specs.Safety.{Undisturbed}
 use Rattle.safety.proofs.Situation.{Held}
 use Rattle.safety.proofs.Grants.{Release, Settling}
-use Rattle.safety.proofs.Requests.{both}
 use Rattle.safety.proofs.Locks.{release_keeps, settling_keeps}
 use Rattle.safety.proofs.Safe.{settled}
 use Rattle.safety.proofs.Stations.{plan, known_facts}
@@ -146,7 +144,7 @@ module _ (s : Station) (keeps : Sound s) (facts : Consequences s) (v : State) (h
     still_point : (t q : ℕ) → q < length s.points → Held (train_at v.track t) (point_at s q).home → get_or (set v.track.points p new) q no_state ≡ state_at v.track q
     still_point t q hq k =
         elim (ℕ_discrete q p) [
-          | yes d ↦ absurd (both (settled (plan s) (known_facts s keeps facts) (view v) (told s h) kept.ghost kept.inv t q hq k) (ap (λ y. (state_at v.track y).settled) d ∙ moving))
+          | yes d ↦ absurd (both_ways _ (ap (λ y. (state_at v.track y).settled) d ∙ moving) (settled (plan s) (known_facts s keeps facts) (view v) (told s h) kept.ghost kept.inv t q hq k))
           | no d ↦ get_or-set_other v.track.points p q new no_state d
         ]
 
@@ -178,10 +176,10 @@ module _ (s : Station) (keeps : Sound s) (facts : Consequences s) (v : State) (h
       chosen true e k = subst (λ y. Next s v y h) (sym k) (point_settled p e)
       chosen false e k = unchanged s v w h [] kept k refl
 
-      go : (d : Option Refusal) → settling_refusal s v.track p ≡ d → w ≡ a_state v.own (refusals.after d v.track (settled_so v.track p (said_so x))) → Next s v w h
+      go : (d : Option Refusal) → settling_refusal s v.track p ≡ d → w ≡ a_state v.own (after d v.track (settled_so v.track p (said x))) → Next s v w h
       go (Some z) e k = unchanged s v w h [] kept k refl
       go None e k =
           let a = passed_test (fits s v.track && has_slots s) _ _ e in
           let b = passed_test (fits s v.track) _ _ a.1 in
           let c = passed_test (ltb p (length v.track.points)) _ _ b.1 in
-          chosen (said_so x) (failed_test (state_at v.track p).settled _ _ c.1).0 k
+          chosen (said x) (failed_test (state_at v.track p).settled _ _ c.1).0 k

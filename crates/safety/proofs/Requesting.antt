@@ -4,7 +4,7 @@ use native.Mathlib.Decide.{ℕ_discrete}
 use borrow.Author.Tests.{not-true}
 use Rattle.std.proofs.lemmas.List.Elements.{Contains-get_or}
 use Rattle.std.proofs.lemmas.List.{get_or_past}
-use Rattle.std.proofs.lemmas.Bool.{and_parts, cases_Bool, cases_lt, leb-true, ltb-true, not_from_false, not_from_true, or_cases}
+use Rattle.std.proofs.lemmas.Bool.{and_parts, cases_Bool, cases_lt, leb-true, ltb-true, not_from_false, not_from_true, or_cases, both_ways}
 use Rattle.firsts.specs.Lists.{all}
 use Rattle.firsts.proofs.Elements.{decides_every, decides_has}
 use Rattle.firsts.proofs.Elements.{found_at}
@@ -28,7 +28,6 @@ use Rattle.track.specs.Meaning.{state_at, train_at, fits}
 use Rattle.track.specs.Trains.{holds}
 use Rattle.track.specs.Ways.{is_stop}
 use Rattle.track.specs.declared.states.Aspect.TheVariants.{Stop}
-use Rattle.track.specs.declared.states.Train.TheVariants.{Absent}
 use Rattle.states.specs.Routes.{is_unset}
 use Rattle.states.specs.Slots.{is_locked}
 use Rattle.states.specs.declared.denials.Denial.{Denial}
@@ -41,10 +40,11 @@ use Rattle.safety.specs.Safety.{Undisturbed}
 use Rattle.safety.proofs.Plan.{Home}
 use Rattle.safety.proofs.Invariant.{Invariant}
 use Rattle.safety.proofs.Grants.{Request, requested}
-use Rattle.safety.proofs.Requests.{both, request_keeps, request_points}
+use Rattle.safety.proofs.Requests.{request_keeps, request_points}
 use Rattle.safety.proofs.Stations.{plan, known_facts}
 use Rattle.safety.proofs.Kept.{Kept, Next, view, told, unchanged}
-use Rattle.safety.proofs.Rows.{row_holds, same_is, told_is, held_is}
+use Rattle.station.proofs.Alike.{decides_position}
+use Rattle.safety.proofs.Rows.{row_holds, told_is, held_is}
 use Rattle.safety.proofs.Denied.{passed_test, no_test_fails}
 use Rattle.safety.proofs.Actions.{live}
 use Rattle.safety.proofs.Acting.{Stayed, acts_stay, acts_route, acts_set, acts_lock, acts_point}
@@ -118,7 +118,7 @@ module _ (s : Station) (keeps : Sound s) (facts : Consequences s) (v : State) (h
     unfolding FreeHome
     leave p x k =
         elim (or_cases _ _ (tests (request.Movable p x) ((facts.rows r hr).request.tested p x k))) [
-          | inl a ↦ inl (ap (λ y. y.target) (sym (told_is s v.track p kept.fitting)) ∙ same_is _ x a)
+          | inl a ↦ inl (ap (λ y. y.target) (sym (told_is s v.track p kept.fitting)) ∙ (decides_position _ x).0 a)
           | inr a ↦ inr (λ q j hq hj home. row_frees p x home.0 a q j hq hj home.1)
         ]
 
@@ -174,15 +174,15 @@ module _ (s : Station) (keeps : Sound s) (facts : Consequences s) (v : State) (h
       locked = λ u. is_locked w.own (Subroute u);
       points = λ p. state_at w.track p;
       proceed = λ n. ap (λ y. not (is_stop (get_or y n Stop))) (sym stayed.signals) i;
-      trains = λ t. ap (λ y. get_or y t Absent) (sym stayed.trains) i;
+      trains = λ t. ap (λ y. get_or y t None) (sym stayed.trains) i;
     }
 
     -- zones that cover what is locked are locked: the route locks those of its path
     covers_after : Covering s (is_free w.own)
     covers_after z u c e =
         elim (locked_at u) [
-          | inl k ↦ absurd (both (zone_locked (facts_locked k.0 k.1 k.2)) (not-true _ e))
-          | inr k ↦ not_from_false _ (elim (cases_Bool (is_locked v.own (Subroute u))) [ inl l ↦ absurd (both (stayed.locks (Zone z) (zone_was l)) (not-true _ e)) | inr l ↦ k.1 ∙ l ])
+          | inl k ↦ absurd (both_ways _ (not-true _ e) (zone_locked (facts_locked k.0 k.1 k.2)))
+          | inr k ↦ not_from_false _ (elim (cases_Bool (is_locked v.own (Subroute u))) [ inl l ↦ absurd (both_ways _ (not-true _ e) (stayed.locks (Zone z) (zone_was l))) | inr l ↦ k.1 ∙ l ])
         ]
       where
         facts_locked : (i : ℕ) → i < path_length s r → on_path s r i ≡ u → Contains (route_at s r).actions (Take (Zone z))
@@ -195,7 +195,7 @@ module _ (s : Station) (keeps : Sound s) (facts : Consequences s) (v : State) (h
             elim (acts_lock s (route_at s r).actions v w kept.sized acted (Zone z)) [ inl j ↦ j.1 (omega arith) | inr j ↦ absurd (j.0 k) ]
 
         zone_was : is_locked v.own (Subroute u) ≡ true → is_locked v.own (Zone z) ≡ true
-        zone_was l = elim (cases_Bool (is_locked v.own (Zone z))) [ inl j ↦ j | inr j ↦ absurd (both l (not-true _ (kept.covering z u c (not_from_false _ j)))) ]
+        zone_was l = elim (cases_Bool (is_locked v.own (Zone z))) [ inl j ↦ j | inr j ↦ absurd (both_ways _ (not-true _ (kept.covering z u c (not_from_false _ j))) l) ]
 
     fits_after : fits s w.track ≡ true
     fits_after = rw (stayed.count, stayed.signals) kept.fitting
@@ -205,7 +205,7 @@ module _ (s : Station) (keeps : Sound s) (facts : Consequences s) (v : State) (h
     undisturbed t p hp (inl k) =
         request_points (plan s) (known_facts s keeps facts) (view v) (told s h) kept.ghost kept.inv r granted t p hp (held_is (train_at v.track t) (point_at s p).home k)
     undisturbed t p hp (inr k) =
-        let e : train_at w.track t ≡ train_at v.track t = ap (λ y. get_or y t Absent) stayed.trains in
+        let e : train_at w.track t ≡ train_at v.track t = ap (λ y. get_or y t None) stayed.trains in
         request_points (plan s) (known_facts s keeps facts) (view v) (told s h) kept.ghost kept.inv r granted t p hp (held_is (train_at v.track t) (point_at s p).home (subst (λ y. holds y (point_at s p).home ≡ true) e k))
 
     request_granted : Next s v w h

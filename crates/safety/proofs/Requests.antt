@@ -1,34 +1,31 @@
 -- A granted request keeps the invariant, and changes no point under a train.
-use Rattle.std.proofs.Common.{◌≡◌, ℕ, zero, suc, ◌<◌, Bool, true, false, ◌≢◌, ◌⊎◌, Some, sym, refl, ap, ◌∙◌, subst, inl, inr, arith}
+use Rattle.std.proofs.Common.{◌≡◌, ℕ, zero, suc, ◌<◌, true, cond, eqb, ◌≢◌, ◌⊎◌, Some, sym, refl, ap, ◌∙◌, subst, inl, inr, arith}
+use Rattle.std.proofs.lemmas.Bool.{both_ways}
+use Rattle.std.proofs.lemmas.Bool.Decides.{eqb_tells}
 use native.Mathlib.Decide.{ℕ_discrete}
 use Rattle.safety.proofs.Plan.{Plan, Home, Facts}
 use Rattle.safety.proofs.Situation.{Situation, Told, Held, Lying, front_of}
 use Rattle.safety.proofs.Invariant.{Owner, route, Ghost, Guarded, OnRoute, Facing, Granted, Open, Invariant}
 use Rattle.safety.proofs.Grants.{Request, requested}
 
--- a flag is not both
-pub both : {b : Bool} → b ≡ true → b ≡ false → ⊥
-both p q = let z : ◌≡◌ {A = ℕ} 0 1 = cc in omega arith
-
-pick : {A B : Type 0} → Dec A → B → B → B
-pick (yes a) x y = x
-pick (no n) x y = y
-
 -- the owners once the route r claims the first n segments of its path
 claim : Plan → ℕ → (ℕ → Owner) → ℕ → ℕ → Owner
 claim S r owner zero x = owner x
-claim S r owner (suc n) x = pick (ℕ_discrete (S.seg (S.sub r n)) x) (route r) (claim S r owner n x)
+claim S r owner (suc n) x = cond (eqb (S.seg (S.sub r n)) x) (route r) (claim S r owner n x)
 
 -- the route claims just these, and the other segments keep their owner
 claimed : (S : Plan) (r : ℕ) (owner : ℕ → Owner) (n x : ℕ) → ((i : ℕ) × (i < n) × (S.seg (S.sub r i) ≡ x) × (claim S r owner n x ≡ route r)) ⊎ (((i : ℕ) → i < n → S.seg (S.sub r i) ≢ x) × (claim S r owner n x ≡ owner x))
-unfolding claim pick
+unfolding claim
 claimed S r owner zero x = inr (λ i h. absurd (omega arith), refl)
-claimed S r owner (suc n) x = go (ℕ_discrete (S.seg (S.sub r n)) x) (claimed S r owner n x)
-  where
-    go : (d : Dec (S.seg (S.sub r n) ≡ x)) → ((i : ℕ) × (i < n) × (S.seg (S.sub r i) ≡ x) × (claim S r owner n x ≡ route r)) ⊎ (((i : ℕ) → i < n → S.seg (S.sub r i) ≢ x) × (claim S r owner n x ≡ owner x)) → ((i : ℕ) × (i < suc n) × (S.seg (S.sub r i) ≡ x) × (pick d (route r) (claim S r owner n x) ≡ route r)) ⊎ (((i : ℕ) → i < suc n → S.seg (S.sub r i) ≢ x) × (pick d (route r) (claim S r owner n x) ≡ owner x))
-    go (yes e) c = inl (n, omega arith, e, refl)
-    go (no ne) (inl c) = inl (c.0, (let hh : c.0 < n = c.1 in omega arith), c.2, c.3)
-    go (no ne) (inr c) = inr (λ i h e. elim (ℕ_discrete i n) [ yes w ↦ ne (subst (λ k. S.seg (S.sub r k) ≡ x) w e) | no w ↦ c.0 i (omega arith) e ], c.1)
+claimed S r owner (suc n) x =
+    elim (eqb_tells (S.seg (S.sub r n)) x) [
+      | inl e ↦ inl (n, omega arith, e.1, rw e.0)
+      | inr ne ↦
+          elim (claimed S r owner n x) [
+            | inl c ↦ inl (c.0, (let hh : c.0 < n = c.1 in omega arith), c.2, rw ne.0 c.3)
+            | inr c ↦ inr (λ i h e. elim (ℕ_discrete i n) [ yes w ↦ ne.1 (subst (λ k. S.seg (S.sub r k) ≡ x) w e) | no w ↦ c.0 i (omega arith) e ], rw ne.0 c.1)
+          ]
+    ]
 
 module _ (S : Plan) (ok : Facts S) (st : Situation) (T : Told) (g : Ghost) (inv : Invariant S st T g) (r : ℕ) (m : Request S st r) where
   owner' : ℕ → Owner
@@ -41,11 +38,11 @@ module _ (S : Plan) (ok : Facts S) (st : Situation) (T : Told) (g : Ghost) (inv 
   owner_kept : (q j : ℕ) → q < S.routes → j < S.len q → st.locked (S.sub q j) ≡ true → owner' (S.seg (S.sub q j)) ≡ g.owner (S.seg (S.sub q j))
   unfolding owner'
   owner_kept q j hq hj l =
-      elim (claimed S r g.owner (S.len r) (S.seg (S.sub q j))) [ inl a ↦ absurd (both l (m.free a.0 q j a.1 hq hj (sym a.2))) | inr a ↦ a.1 ]
+      elim (claimed S r g.owner (S.len r) (S.seg (S.sub q j))) [ inl a ↦ absurd (both_ways _ (m.free a.0 q j a.1 hq hj (sym a.2)) l) | inr a ↦ a.1 ]
 
   -- and no point at home in it changes
   point_kept : (q j p : ℕ) → q < S.routes → j < S.len q → Home S p (S.seg (S.sub q j)) → st.locked (S.sub q j) ≡ true → m.points p ≡ st.points p
-  point_kept q j p hq hj e l = elim (m.points_are p) [ inl a ↦ a | inr a ↦ absurd (both l (a q j hq hj e)) ]
+  point_kept q j p hq hj e l = elim (m.points_are p) [ inl a ↦ a | inr a ↦ absurd (both_ways _ (a q j hq hj e) l) ]
 
   lying_kept : (v q j : ℕ) → v < S.subs → q < S.routes → j < S.len q → S.seg v ≡ S.seg (S.sub q j) → st.locked (S.sub q j) ≡ true → Lying S st v → Lying S (requested m) v
   lying_kept v q j hv hq hj e l ps x hx =

@@ -1,12 +1,12 @@
 -- What it says that a row's tests hold.
 use Rattle.std.proofs.Common.{◌≡◌, ℕ, ◌<◌, ◌≤◌, Bool, true, false, eqb, ltb, ◌⊎◌, List, ◌++◌, length, Some, None, Contains, Option, sym, ap, ◌∙◌, subst, inl, inr, arith, eq-eqb, eqb-true}
+use Rattle.std.proofs.lemmas.Option.{none-some}
 use borrow.Author.Tests.{not-true}
 use Rattle.std.proofs.lemmas.Bool.{and_parts, cases_lt, lt-ltb, le-ltb, or_cases, or_left, or_right}
 use Rattle.firsts.proofs.Below.{decides_any_below}
 use Rattle.std.specs.Option.{option_to_list}
 use Rattle.std.proofs.lemmas.List.{get_or_past}
 use Rattle.std.proofs.lemmas.Bool.Decides.{not_from_Decides}
-use Rattle.station.specs.Alike.{same_position}
 use Rattle.station.specs.Station.{Station}
 use Rattle.station.specs.declared.tests.Position.{Position}
 use Rattle.station.proofs.Alike.{decides_position}
@@ -14,26 +14,15 @@ use Rattle.track.specs.Calls.{segment_refusal, said}
 use Rattle.track.specs.Refusals.{answer}
 use Rattle.track.specs.declared.refusals.Refusal.{Refusal}
 use Rattle.track.specs.Meaning.{Meaning, no_state, state_at, train_at, clear, fits}
-use Rattle.track.specs.Trains.{holds, among, front_part}
-use Rattle.track.specs.declared.states.Front.{Front}
-use Rattle.track.specs.declared.states.Front.TheVariants.{In, Outside}
-use Rattle.track.specs.declared.states.Train.{Train}
-use Rattle.track.specs.declared.states.Train.TheVariants.{Absent, Present}
+use Rattle.track.specs.Trains.{holds, among, front_part, Train}
 use Rattle.conditions.specs.Firsts.{first_fails}
 use Rattle.conditions.proofs.Failing.{first_failing}
 use Rattle.conditions.specs.Tests.{point_told, lies, is_clear}
-use Rattle.safety.proofs.Situation.{Held, inside}
-
--- no two constructors are equal
-pub some_none : {A : Type 0} {x : A} → ◌≡◌ {A = Option A} (Some x) None → ⊥
-some_none e = let z : ◌≡◌ {A = ℕ} 0 1 = cc in omega arith
+use Rattle.safety.proofs.Situation.{Held}
 
 -- where no test fails, each holds
 pub row_holds : {X : Type 0} (f : X → Bool) (xs : List X) → first_fails f xs ≡ None → (x : X) → Contains xs x → f x ≡ true
 row_holds f xs e = first_failing f xs None (sym e)
-
-pub same_is : (x y : Position) → same_position x y ≡ true → x ≡ y
-same_is x y e = (decides_position x y).0 e
 
 -- what a trackside answers of a point is its state, declared or not
 pub told_is : (s : Station) (m : Meaning) (p : ℕ) → fits s m ≡ true → point_told s m p ≡ state_at m p
@@ -50,37 +39,37 @@ pub lies_is : (s : Station) (m : Meaning) (p : ℕ) (x : Position) → fits s m 
 lies_is s m p x fit e =
     let k = told_is s m p fit in
     let w = and_parts _ _ e in
-    (ap (λ y. y.settled) (sym k) ∙ w.0, ap (λ y. y.target) (sym k) ∙ same_is _ x w.1)
+    (ap (λ y. y.settled) (sym k) ∙ w.0, ap (λ y. y.target) (sym k) ∙ (decides_position _ x).0 w.1)
 
 -- what a train holds
 pub held_is : (tr : Train) (x : ℕ) → holds tr x ≡ true → Held tr x
-held_is Absent x e = absurd (let z : ◌≡◌ {A = ℕ} 0 1 = cc in omega arith)
-held_is (Present p) x e = go p.front p.rear e
+held_is None x e = cc
+held_is (Some p) x e = go p.front p.rear e
   where
-    go : (f : Front) (r : Option ℕ) → among (front_part f ++ option_to_list r) x ≡ true → (inside f ≡ Some x) ⊎ (r ≡ Some x)
-    go Outside None e = absurd (let z : ◌≡◌ {A = ℕ} 0 1 = cc in omega arith)
-    go Outside (Some y) e = elim (or_cases _ _ e) [ inl a ↦ inr (ap Some (eqb-true y x a)) | inr a ↦ absurd (let z : ◌≡◌ {A = ℕ} 0 1 = cc in omega arith) ]
-    go (In y) None e = elim (or_cases _ _ e) [ inl a ↦ inl (ap Some (eqb-true y x a)) | inr a ↦ absurd (let z : ◌≡◌ {A = ℕ} 0 1 = cc in omega arith) ]
-    go (In y) (Some b) e =
+    go : (f : Option ℕ) (r : Option ℕ) → among (front_part f ++ option_to_list r) x ≡ true → (f ≡ Some x) ⊎ (r ≡ Some x)
+    go None None e = cc
+    go None (Some y) e = elim (or_cases _ _ e) [ inl a ↦ inr (ap Some (eqb-true y x a)) | inr a ↦ cc ]
+    go (Some y) None e = elim (or_cases _ _ e) [ inl a ↦ inl (ap Some (eqb-true y x a)) | inr a ↦ cc ]
+    go (Some y) (Some b) e =
         elim (or_cases _ _ e) [
           | inl a ↦ inl (ap Some (eqb-true y x a))
-          | inr a ↦ elim (or_cases _ _ a) [ inl c ↦ inr (ap Some (eqb-true b x c)) | inr c ↦ absurd (let z : ◌≡◌ {A = ℕ} 0 1 = cc in omega arith) ]
+          | inr a ↦ elim (or_cases _ _ a) [ inl c ↦ inr (ap Some (eqb-true b x c)) | inr c ↦ cc ]
         ]
 
 pub holds_it : (tr : Train) (x : ℕ) → Held tr x → holds tr x ≡ true
-holds_it Absent x (inl e) = absurd (some_none (sym e))
-holds_it Absent x (inr e) = absurd (some_none (sym e))
-holds_it (Present p) x h = go p.front p.rear h
+holds_it None x (inl e) = absurd (none-some _ e)
+holds_it None x (inr e) = absurd (none-some _ e)
+holds_it (Some p) x h = go p.front p.rear h
   where
     same : (y : ℕ) → ◌≡◌ {A = Option ℕ} (Some y) (Some x) → eqb y x ≡ true
     same y e = eq-eqb y x cc
 
-    go : (f : Front) (r : Option ℕ) → (inside f ≡ Some x) ⊎ (r ≡ Some x) → among (front_part f ++ option_to_list r) x ≡ true
-    go Outside r (inl e) = absurd (some_none (sym e))
-    go (In y) r (inl e) = or_left _ _ (same y e)
-    go f None (inr e) = absurd (some_none (sym e))
-    go Outside (Some b) (inr e) = or_left _ _ (same b e)
-    go (In y) (Some b) (inr e) = or_right (eqb y x) _ (or_left _ _ (same b e))
+    go : (f : Option ℕ) (r : Option ℕ) → (f ≡ Some x) ⊎ (r ≡ Some x) → among (front_part f ++ option_to_list r) x ≡ true
+    go None r (inl e) = absurd (none-some _ e)
+    go (Some y) r (inl e) = or_left _ _ (same y e)
+    go f None (inr e) = absurd (none-some _ e)
+    go None (Some b) (inr e) = or_left _ _ (same b e)
+    go (Some y) (Some b) (inr e) = or_right (eqb y x) _ (or_left _ _ (same b e))
 
 -- a segment that is tested clear is held by no train
 pub clear_is : (s : Station) (m : Meaning) (x : ℕ) → length m.trains ≡ 16 → is_clear s m x ≡ true → (t : ℕ) → Held (train_at m t) x → ⊥
@@ -88,7 +77,7 @@ clear_is s m x sixteen e t h = elim (cases_lt t 16) [ inl a ↦ none_holds a | i
   where
     said_clear : (d : Option Refusal) (b : Bool) → said (answer d b) ≡ true → b ≡ true
     said_clear None b e = e
-    said_clear (Some z) b e = absurd (let y : ◌≡◌ {A = ℕ} 0 1 = cc in omega arith)
+    said_clear (Some z) b e = cc
 
     none_holds : t < 16 → ⊥
     none_holds a =
@@ -98,10 +87,10 @@ clear_is s m x sixteen e t h = elim (cases_lt t 16) [ inl a ↦ none_holds a | i
     gone : 16 ≤ t → ⊥
     gone a =
         let n : length m.trains ≤ t = omega arith in
-        let w : train_at m t ≡ Absent = get_or_past m.trains t Absent n in
-        let k : Held Absent x = subst (λ y. Held y x) w h in
+        let w : train_at m t ≡ None = get_or_past m.trains t None n in
+        let k : Held None x = subst (λ y. Held y x) w h in
         absent k
       where
-        absent : Held Absent x → ⊥
-        absent (inl z) = some_none (sym z)
-        absent (inr z) = some_none (sym z)
+        absent : Held None x → ⊥
+        absent (inl z) = none-some _ z
+        absent (inr z) = none-some _ z

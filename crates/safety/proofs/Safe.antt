@@ -1,10 +1,10 @@
 -- The opening gives the invariant, and the invariant what is promised of trains.
-use Rattle.std.proofs.Common.{◌≡◌, ℕ, suc, ◌<◌, ◌≤◌, true, false, [], Some, None, sym, refl, ap, ◌∙◌, subst, inl, inr, arith}
-use Rattle.track.specs.declared.states.Train.TheVariants.{Absent}
+use Rattle.std.proofs.Common.{◌≡◌, ℕ, suc, ◌<◌, ◌≤◌, true, false, [], Some, None, sym, refl, ap, ◌∙◌, subst, inl, inr}
+use Rattle.std.proofs.lemmas.Bool.{both_ways}
 use Rattle.safety.proofs.Plan.{Plan, Facts}
-use Rattle.safety.proofs.Situation.{Situation, Told, Held, firsts, front_of, rear_of, derailed}
+use Rattle.safety.specs.Safety.{is_derailed}
+use Rattle.safety.proofs.Situation.{Situation, Told, Held, firsts, front_of, rear_of}
 use Rattle.safety.proofs.Invariant.{nobody, train, Progress, none, on, Ghost, Invariant}
-use Rattle.safety.proofs.Requests.{both}
 
 -- nothing is claimed, and nothing has been told
 abbrev pub nothing : Ghost
@@ -18,24 +18,24 @@ pub record Opened (st : Situation) : Type 0 where
   pub live : (r : ℕ) → st.live r ≡ false
   pub active : (r : ℕ) → st.active r ≡ false
   pub proceed : (n : ℕ) → st.proceed n ≡ false
-  pub trains : (t : ℕ) → st.trains t ≡ Absent
+  pub trains : (t : ℕ) → st.trains t ≡ None
 
 module _ (S : Plan) (st : Situation) (o : Opened st) where
   none_held : (t x : ℕ) → Held (st.trains t) x → ⊥
-  none_held t x (inl e) = let w : None ≡ Some x = sym (ap front_of (o.trains t)) ∙ e in let y : ◌≡◌ {A = ℕ} 0 1 = cc in omega arith
-  none_held t x (inr e) = let w : None ≡ Some x = sym (ap rear_of (o.trains t)) ∙ e in let y : ◌≡◌ {A = ℕ} 0 1 = cc in omega arith
+  none_held t x (inl e) = let w : None ≡ Some x = sym (ap front_of (o.trains t)) ∙ e in cc
+  none_held t x (inr e) = let w : None ≡ Some x = sym (ap rear_of (o.trains t)) ∙ e in cc
 
   pub opening_keeps : Invariant S st untold nothing
   opening_keeps =
       record {
-        granted = λ r e. absurd (both e (o.live r));
-        open_way = λ r e. absurd (both e (o.active r));
-        signal = λ n e. absurd (both e (o.proceed n));
+        granted = λ r e. absurd (both_ways _ (o.live r) e);
+        open_way = λ r e. absurd (both_ways _ (o.active r) e);
+        signal = λ n e. absurd (both_ways _ (o.proceed n) e);
         held = λ t x h. absurd (none_held t x h);
-        on_track = λ t. ap derailed (o.trains t);
+        on_track = λ t. ap is_derailed (o.trains t);
         moving = λ t f r k e n. absurd (none_held t f (inl e));
         resting = λ t f e n. absurd (none_held t f (inl e));
-        following = λ t r k n. absurd (let y : ◌≡◌ {A = ℕ} 0 1 = cc in omega arith);
+        following = λ t r k n. cc;
         idle = λ t n. (refl, refl);
       }
 
@@ -60,7 +60,7 @@ module _ (S : Plan) (ok : Facts S) (st : Situation) (T : Told) (g : Ghost) (inv 
   along t r e = go (g.progress t) refl
     where
       go : (n : Progress) → g.progress t ≡ n → (n : ℕ) × (n ≤ S.len r) × (T.since t ≡ firsts S r n)
-      go none d = absurd (let w : None ≡ Some r = sym (inv.idle t d).1 ∙ e in let y : ◌≡◌ {A = ℕ} 0 1 = cc in omega arith)
+      go none d = absurd (let w : None ≡ Some r = sym (inv.idle t d).1 ∙ e in cc)
       go (on q k) d =
           let w = inv.following t q k d in
           let i : Some q ≡ Some r = sym w.its ∙ e in
@@ -73,4 +73,4 @@ module _ (S : Plan) (ok : Facts S) (st : Situation) (T : Told) (g : Ghost) (inv 
     where
       go : (n : Progress) → g.progress t ≡ n → T.since t ≡ []
       go none d = (inv.idle t d).0
-      go (on q k) d = absurd (let w : Some q ≡ None = sym (inv.following t q k d).its ∙ e in let y : ◌≡◌ {A = ℕ} 0 1 = cc in omega arith)
+      go (on q k) d = absurd (let w : Some q ≡ None = sym (inv.following t q k d).its ∙ e in cc)

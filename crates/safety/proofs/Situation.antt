@@ -1,12 +1,10 @@
 -- A machine over its track, by number; what was told of its calls; and what one table's change is.
-use Rattle.std.proofs.Common.{◌≡◌, ℕ, zero, suc, Bool, true, false, cond, eqb, ◌≢◌, ◌⊎◌, List, [], ◌∷◌, ◌++◌, Some, None, Contains, Option, inl, inr}
+use Rattle.std.proofs.Common.{◌≡◌, ℕ, zero, suc, Bool, true, cond, eqb, ◌≢◌, ◌⊎◌, List, [], ◌∷◌, ◌++◌, Some, None, Contains, Option, inl, inr}
+use Rattle.std.specs.Option.{option_and_then, option_map_or}
 use Rattle.std.proofs.lemmas.Bool.Decides.{eqb_tells}
 use Rattle.station.specs.declared.tables.Setting.{Setting}
-use Rattle.track.specs.declared.states.Front.{Front}
-use Rattle.track.specs.declared.states.Front.TheVariants.{In, Outside}
 use Rattle.track.specs.declared.states.PointState.{PointState}
-use Rattle.track.specs.declared.states.Train.{Train}
-use Rattle.track.specs.declared.states.Train.TheVariants.{Absent, Present}
+use Rattle.track.specs.Trains.{Train}
 use Rattle.safety.proofs.Plan.{Plan}
 
 -- `live` routes are set or active
@@ -18,26 +16,15 @@ pub record Situation : Type 0 where
   pub proceed : ℕ → Bool
   pub trains : ℕ → Train
 
-abbrev pub inside : Front → Option ℕ
-inside (In x) = Some x
-inside Outside = None
-
 -- the parts of a train's record
 abbrev pub front_of : Train → Option ℕ
-front_of Absent = None
-front_of (Present p) = inside p.front
+front_of t = option_and_then (λ p. p.front) t
 
 abbrev pub rear_of : Train → Option ℕ
-rear_of Absent = None
-rear_of (Present p) = p.rear
+rear_of t = option_and_then (λ p. p.rear) t
 
 abbrev pub joint_of : Train → ℕ
-joint_of Absent = 0
-joint_of (Present p) = p.joint
-
-abbrev pub derailed : Train → Bool
-derailed Absent = false
-derailed (Present p) = p.derailed
+joint_of t = option_map_or (λ p. p.joint) t 0
 
 -- the train holds the segment
 abbrev pub Held : Train → ℕ → Type 0

@@ -1,6 +1,8 @@
 -- A station's lookups as a plan, and what the rules give it.
 use Rattle.std.proofs.Common.{◌≡◌, ℕ, suc, ◌+◌, ◌-◌, ◌/◌, ◌%◌, ◌<◌, Bool, true, false, cond, eqb, ◌≢◌, ◌⊎◌, length, Some, None, Option, sym, refl, ap, ◌∙◌, subst, inl, inr, arith, eq-eqb, ne_eqb, eqb-true}
+use Rattle.std.specs.Option.{option_map_or}
 use Rattle.std.proofs.lemmas.Bool.Decides.{eqb_tells}
+use Rattle.std.proofs.lemmas.Option.{cond_some}
 use Rattle.firsts.specs.Search.{First}
 use Rattle.firsts.proofs.Firsts.{first_is, none_below}
 use Rattle.firsts.proofs.Elements.{found_at}
@@ -18,7 +20,7 @@ use Rattle.route_rules.specs.Signals.{Onward, last_of, past}
 use Rattle.acceptance.specs.Soundness.{Sound}
 use Rattle.acceptance.specs.Consequences.{Consequences, Lie}
 use Rattle.track.specs.Ways.{governs, governor}
-use Rattle.passing.specs.Signals.{signal_of, is_number, from_signal}
+use Rattle.passing.specs.Signals.{signal_of, from_signal}
 use Rattle.safety.proofs.Plan.{Plan, Ending, Facts}
 
 -- the subroute that runs the same way in the other direction
@@ -44,19 +46,15 @@ plan s =
       starts = λ r n. from_signal s n r;
     }
 
-answered : (b : Bool) (k n : ℕ) → cond b (Some k) None ≡ Some n → (b ≡ true) × (k ≡ n)
-answered true k n e = (refl, cc)
-answered false k n e = let z : ◌≡◌ {A = ℕ} 0 1 = cc in absurd (omega arith)
-
 found : {X : Type 0} (f : ℕ → Option X) (n : ℕ) (x : X) (r : Option X) → First f n r → r ≡ Some x → (k : ℕ) × (k < n) × (f k ≡ Some x)
-found f n x None h e = let z : ◌≡◌ {A = ℕ} 0 1 = cc in absurd (omega arith)
+found f n x None h e = cc
 found f n x (Some y) h e = (h.place, h.within, h.answer ∙ e)
 
 -- the governor of a joint and a segment is declared, and stands there
 pub governor_is : (s : Station) (j x n : ℕ) → governor s j x ≡ Some n → (n < length s.signals) × (record { joint = j; segment = x } ≡ signal_at s n)
 governor_is s j x n e =
     let w = found (governs s j x) (length s.signals) n (governor s j x) (first_is (governs s j x) (length s.signals)) e in
-    let a = answered _ w.0 n w.2 in
+    let a = cond_some _ w.0 n w.2 in
     let b = (decides_signal (record { joint = j; segment = x }) (signal_at s w.0)).0 a.0 in
     (subst (λ y. y < length s.signals) a.1 w.1, b ∙ ap (signal_at s) a.1)
 
@@ -74,11 +72,10 @@ governed s j x h = elim (some_or_none (governor s j x)) [ inl a ↦ a | inr a �
         let a : signal_at s k ≡ record { joint = j; segment = x } = found_at s.signals (record { joint = j; segment = x }) h no_signal in
         let b = (decides_signal (record { joint = j; segment = x }) (signal_at s k)).1 (sym a) in
         let c : cond true (Some k) None ≡ None = rw b at (none_below (governs s j x) (length s.signals) e k h.1) in
-        let z : ◌≡◌ {A = ℕ} 0 1 = cc in
-        omega arith
+        cc
 
-pub is_the_number : (o : Option ℕ) (n : ℕ) → is_number o n ≡ true → o ≡ Some n
-is_the_number None n e = let z : ◌≡◌ {A = ℕ} 0 1 = cc in absurd (omega arith)
+pub is_the_number : (o : Option ℕ) (n : ℕ) → option_map_or (λ k. eqb k n) o false ≡ true → o ≡ Some n
+is_the_number None n e = cc
 is_the_number (Some k) n e = ap Some (eqb-true k n e)
 
 module _ (s : Station) (keeps : Sound s) (facts : Consequences s) where

@@ -1,6 +1,7 @@
 -- After every list of calls all that is kept holds, and from it what is promised.
 use Rattle.std.proofs.Common.{◌≡◌, ℕ, zero, suc, ◌<◌, ◌≤◌, true, false, not, ◌&&◌, ltb, List, [], ◌∷◌, ◌++◌, length, get_or, take, replicate, Some, None, Option, refl, ap, ◌∙◌, inl, inr, arith, take-suc, MatchOption}
 use lib.ListN.{length-replicate}
+use Rattle.std.specs.Option.{is_some}
 use Rattle.std.proofs.lemmas.List.{get_or-map, get_or_past, get_or-replicate, length-map}
 use Rattle.std.proofs.lemmas.Bool.{and_parts, cases_lt, lt-ltb}
 use Rattle.std.proofs.lemmas.Bool.Decides.{not_from_Decides}
@@ -17,20 +18,19 @@ use Rattle.track.specs.Calls.{place_answer}
 use Rattle.track.specs.Meaning.{Meaning, fits, train_at}
 use Rattle.track.specs.Ways.{is_stop}
 use Rattle.track.specs.declared.states.Aspect.TheVariants.{Stop}
-use Rattle.track.specs.declared.states.Train.{Train}
-use Rattle.track.specs.declared.states.Train.TheVariants.{Absent, Present}
+use Rattle.track.specs.Trains.{Train}
 use Rattle.states.specs.Routes.{is_active, is_unset}
 use Rattle.states.specs.declared.routes.RouteState.TheVariants as routes
 use Rattle.conditions.specs.States.{State}
 use Rattle.passing.specs.Locks.{has_slots}
-use Rattle.calls.specs.Opening.{is_present, open_denial, opened, some_present, told_present}
+use Rattle.calls.specs.Opening.{open_denial, opened, some_present, told_present}
 use Rattle.calls.specs.Steps.{Steps}
 use Rattle.calls.specs.declared.values.Answer.{Answer}
 use Rattle.calls.specs.declared.values.Call.{Call}
 use Rattle.calls.specs.declared.values.Call.TheVariants as calls
 use Rattle.safety.specs.Histories.{History, happened, route_of, since}
-use Rattle.safety.specs.Safety.{Carried, Follows, Logged, Safe, SafeRuns, SafeThrough, is_derailed, segments}
-use Rattle.safety.proofs.Situation.{derailed, firsts}
+use Rattle.safety.specs.Safety.{Carried, Follows, Logged, Safe, SafeRuns, SafeThrough, segments}
+use Rattle.safety.proofs.Situation.{firsts}
 use Rattle.safety.proofs.Safe.{Opened, nothing, opening_keeps, alone, settled, along, still}
 use Rattle.safety.proofs.Stations.{plan, known_facts}
 use Rattle.safety.proofs.Kept.{Kept, Next, view, told}
@@ -57,16 +57,16 @@ module _ (s : Station) (m : Meaning) (sixteen : length m.trains ≡ 16) (granted
   none_present = (failed_test (some_present s m) _ _ (passed_test (fits s m && has_slots s) _ _ granted).1).0
 
   -- a present train would be told
-  tells : (t : ℕ) → t < 16 → is_present (train_at m t) ≡ true → told_present (place_answer s m t) ≡ true
+  tells : (t : ℕ) → t < 16 → is_some (train_at m t) ≡ true → told_present (place_answer s m t) ≡ true
   tells t h e = let k : ltb t 16 ≡ true = lt-ltb t 16 h in rw (fitting, k) e
 
-  absent : (t : ℕ) → train_at m t ≡ Absent
-  absent t = elim (cases_lt t 16) [ inl h ↦ by_train (train_at m t) refl h | inr h ↦ get_or_past m.trains t Absent (omega arith) ]
+  absent : (t : ℕ) → train_at m t ≡ None
+  absent t = elim (cases_lt t 16) [ inl h ↦ by_train (train_at m t) refl h | inr h ↦ get_or_past m.trains t None (omega arith) ]
     where
-      by_train : (tr : Train) → train_at m t ≡ tr → t < 16 → tr ≡ Absent
-      by_train Absent e h = refl
-      by_train (Present p) e h =
-          absurd (not_from_Decides _ (decides_any_below (λ i. told_present (place_answer s m i) ≡ true) (λ i. (λ w. w, λ w. w)) 16) none_present (t, h, tells t h (ap is_present e)))
+      by_train : (tr : Train) → train_at m t ≡ tr → t < 16 → tr ≡ None
+      by_train None e h = refl
+      by_train (Some p) e h =
+          absurd (not_from_Decides _ (decides_any_below (λ i. told_present (place_answer s m i) ≡ true) (λ i. (λ w. w, λ w. w)) 16) none_present (t, h, tells t h (ap is_some e)))
 
   fresh_view : Opened (view (opened m))
   fresh_view =
@@ -123,16 +123,12 @@ module _ (s : Station) (keeps : Sound s) (facts : Consequences s) where
             let n = w.1 in
             (w.0, simp length-map w.1, w.2 ∙ firsts_are r w.0 w.1)
 
-    on_track : (tr : Train) → derailed tr ≡ false → is_derailed tr ≡ false
-    on_track Absent e = refl
-    on_track (Present p) e = e
-
     pub safe : Safe s v h
     safe =
         record {
           apart = λ t u x a b. alone (plan s) (known_facts s keeps facts) (view v) (told s h) k.ghost k.inv t u x (held_is (train_at v.track t) x a) (held_is (train_at v.track u) x b);
           settled = λ t p hp a. settled (plan s) (known_facts s keeps facts) (view v) (told s h) k.ghost k.inv t p hp (held_is (train_at v.track t) (point_at s p).home a);
-          on_track = λ t. on_track (train_at v.track t) (k.inv.on_track t);
+          on_track = k.inv.on_track;
           follows = follows;
         }
 

@@ -1,8 +1,9 @@
 -- A front to the outside, a rear and a turn keep the invariant.
-use Rattle.std.proofs.Common.{◌≡◌, ℕ, [], Some, None, sym, ap, ◌∙◌, subst, inl, inr, arith, eq-eqb, ne_eqb}
+use Rattle.std.proofs.Common.{◌≡◌, ℕ, [], Some, None, sym, ap, ◌∙◌, subst, inl, inr, eq-eqb, ne_eqb}
 use Rattle.track.specs.Trains.{come_in}
 use Rattle.safety.proofs.Plan.{Plan, Facts}
-use Rattle.safety.proofs.Situation.{Situation, Told, told_turning, Held, front_of, rear_of, joint_of, derailed, put, put_is, with_trains}
+use Rattle.safety.specs.Safety.{is_derailed}
+use Rattle.safety.proofs.Situation.{Situation, Told, told_turning, Held, front_of, rear_of, joint_of, put, put_is, with_trains}
 use Rattle.safety.proofs.Invariant.{Progress, none, on, Ghost, Guarded, OnRoute, Facing, Following, Invariant}
 use Rattle.safety.proofs.Moves.{Shrinking, Turning}
 use Rattle.safety.proofs.Frames.{frame_route, frame_facing}
@@ -49,7 +50,7 @@ module _ (S : Plan) (ok : Facts S) (st : Situation) (T : Told) (g : Ghost) (inv 
         open_way = inv.open_way;
         signal = inv.signal;
         held = shrink_held;
-        on_track = λ u. elim (m.trains_are u) [ inl a ↦ ap derailed a.1 ∙ m.sound | inr a ↦ ap derailed a.1 ∙ inv.on_track u ];
+        on_track = λ u. elim (m.trains_are u) [ inl a ↦ ap is_derailed a.1 ∙ m.sound | inr a ↦ ap is_derailed a.1 ∙ inv.on_track u ];
         moving = shrink_moving;
         resting = shrink_resting;
         following = inv.following;
@@ -66,7 +67,7 @@ module _ (S : Plan) (ok : Facts S) (st : Situation) (T : Told) (g : Ghost) (inv 
     where
       back : (y : ℕ) → Held (come_in m.f (S.to m.v)) y → Held (st.trains t) y
       back y (inl e) = inl (ap front_of m.was ∙ e)
-      back y (inr e) = absurd (let z : ◌≡◌ {A = ℕ} 0 1 = cc in omega arith)
+      back y (inr e) = cc
 
   -- the turned train faces the signal that the call asked for, along the way by which it came in
   turn_facing : (u f : ℕ) → m.trains u ≡ come_in m.f (S.to m.v) → front_of (m.trains u) ≡ Some f → Facing S (with_trains st m.trains) u f
@@ -92,7 +93,7 @@ module _ (S : Plan) (ok : Facts S) (st : Situation) (T : Told) (g : Ghost) (inv 
   unfolding progress'
   turn_moving u f r k w n =
       elim (put_is g.progress t none u) [
-        | inl b ↦ absurd (let c : none ≡ on r k = sym b.1 ∙ n in let y : ◌≡◌ {A = ℕ} 0 1 = cc in omega arith)
+        | inl b ↦ absurd (let c : none ≡ on r k = sym b.1 ∙ n in cc)
         | inr b ↦ elim (m.trains_are u) [ inl a ↦ absurd (b.0 a.0) | inr a ↦ frame_route S st m.trains u a.1 g.owner r k (inv.moving u f r k (ap front_of (sym a.1) ∙ w) (sym b.1 ∙ n)) ]
       ]
 
@@ -108,7 +109,7 @@ module _ (S : Plan) (ok : Facts S) (st : Situation) (T : Told) (g : Ghost) (inv 
   unfolding progress'
   turn_following u r k n =
       elim (put_is g.progress t none u) [
-        | inl b ↦ absurd (let c : none ≡ on r k = sym b.1 ∙ n in let y : ◌≡◌ {A = ℕ} 0 1 = cc in omega arith)
+        | inl b ↦ absurd (let c : none ≡ on r k = sym b.1 ∙ n in cc)
         | inr b ↦
             let old = inv.following u r k (sym b.1 ∙ n) in
             record { r_known = old.r_known; k_in = old.k_in; came = rw (ne_eqb u t b.0) old.came; its = rw (ne_eqb u t b.0) old.its }
@@ -131,7 +132,7 @@ module _ (S : Plan) (ok : Facts S) (st : Situation) (T : Told) (g : Ghost) (inv 
       open_way = inv.open_way;
       signal = inv.signal;
       held = turn_held;
-      on_track = λ u. elim (m.trains_are u) [ inl a ↦ ap derailed a.1 | inr a ↦ ap derailed a.1 ∙ inv.on_track u ];
+      on_track = λ u. elim (m.trains_are u) [ inl a ↦ ap is_derailed a.1 | inr a ↦ ap is_derailed a.1 ∙ inv.on_track u ];
       moving = turn_moving;
       resting = turn_resting;
       following = turn_following;

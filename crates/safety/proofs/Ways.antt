@@ -33,7 +33,7 @@ module _ (S : Plan) (ok : Facts S) (st : Situation) where
       let w = one_fits f j v o.v a (facing_fits t f j e o) in
       let d : Segment o.x ≡ Segment x = sym o.over ∙ ap (λ y. S.beyond (S.to y) f) (sym w) ∙ b in
       let g : S.signal (S.to v) x ≡ Some o.n = cc o.signal in
-      let y : ◌≡◌ {A = ℕ} 0 1 = cc in omega arith
+      cc
 
   -- one on its route that passes no signal comes into the next place
   pub next_place : (owner : ℕ → Owner) (t f j v x r k : ℕ) → st.trains t ≡ come_in f j → OnRoute S st owner t r k → Fitting S st f j v → S.beyond (S.to v) f ≡ Segment x → S.signal (S.to v) x ≡ None → (suc k < S.len r) × (x ≡ S.seg (S.sub r (suc k))) × (S.to v ≡ S.from (S.sub r (suc k)))
@@ -58,9 +58,9 @@ module _ (S : Plan) (ok : Facts S) (st : Situation) where
           let bs' = bs in
           let w' = w in
           (h, cc, cc)
-      go (inr (inl z)) = absurd (let bs' = bs in let y : ◌≡◌ {A = ℕ} 0 1 = cc in omega arith)
-      go (inr (inr (inl z))) = absurd (let bs' = bs in let y : ◌≡◌ {A = ℕ} 0 1 = cc in omega arith)
-      go (inr (inr (inr z))) = absurd (let bs' = bs in let cs' = cs in let q : Segment x ≡ Segment z.0 = sym bs ∙ z.2 in let y : ◌≡◌ {A = ℕ} 0 1 = cc z.3 in omega arith)
+      go (inr (inl z)) = absurd (let bs' = bs in cc)
+      go (inr (inr (inl z))) = absurd (let bs' = bs in cc)
+      go (inr (inr (inr z))) = absurd (let bs' = bs in let cs' = cs in let q : Segment x ≡ Segment z.0 = sym bs ∙ z.2 in cc z.3)
 
   -- a way fits every train that stands in one segment, so none derails
   pub has_way : (T : Told) (g : Ghost) → Invariant S st T g → (t f j : ℕ) → st.trains t ≡ come_in f j → (v : ℕ) × Fitting S st f j v

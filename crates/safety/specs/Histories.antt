@@ -7,9 +7,7 @@ use Rattle.calls.specs.declared.values.Call.TheVariants.{Request, Activate, Rele
 use Rattle.passing.specs.Signals.{from_signal}
 use Rattle.station.specs.Station.{Station}
 use Rattle.track.specs.Meaning.{Meaning, train_at}
-use Rattle.track.specs.Trains.{front_part}
-use Rattle.track.specs.declared.states.Train.{Train}
-use Rattle.track.specs.declared.states.Train.TheVariants.{Absent, Present}
+use Rattle.track.specs.Trains.{front_part, Train}
 
 -- a route became active; a train passed a signal; a segment became a train's front; a train turned
 pub data Event : Type 0 where
@@ -24,8 +22,8 @@ History = List Event
 
 -- the segment that the train's front came into, if any
 abbrev pub arrival : ℕ → Train → History
-arrival t Absent = []
-arrival t (Present p) = map (entered t) (front_part p.front)
+arrival t None = []
+arrival t (Some p) = map (entered t) (front_part p.front)
 
 -- a train passed the signal, or none, and its front came into a segment, or went outside
 abbrev pub moved_on : ℕ → Option ℕ → Train → History

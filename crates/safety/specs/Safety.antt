@@ -1,5 +1,6 @@
 -- What holds of trains after every list of calls at an accepted station.
 use Rattle.std.specs.Prelude.{◌≡◌, ℕ, ◌<◌, ◌≤◌, Bool, true, false, ◌⊎◌, List, [], ◌∷◌, ◌++◌, map, length, take, None, MatchOption}
+use Rattle.std.specs.Option.{option_map_or}
 use Rattle.acceptance.specs.Soundness.{sound}
 use Rattle.conditions.specs.States.{State}
 use Rattle.calls.specs.Opening.{open_denial, opened}
@@ -11,9 +12,7 @@ use Rattle.station.specs.Paths.{path}
 use Rattle.station.specs.Station.{Station}
 use Rattle.station.specs.Subroutes.{segment_of}
 use Rattle.track.specs.Meaning.{Meaning, state_at, train_at}
-use Rattle.track.specs.Trains.{holds}
-use Rattle.track.specs.declared.states.Train.{Train}
-use Rattle.track.specs.declared.states.Train.TheVariants.{Absent, Present}
+use Rattle.track.specs.Trains.{holds, Train}
 use Rattle.safety.specs.Histories.{History, happened, route_of, since}
 
 -- a call, what was answered to it, and the state that it left
@@ -32,8 +31,7 @@ abbrev pub Holds : State → ℕ → ℕ → Type 0
 Holds v t x = holds (train_at v.track t) x ≡ true
 
 abbrev pub is_derailed : Train → Bool
-is_derailed Absent = false
-is_derailed (Present p) = p.derailed
+is_derailed t = option_map_or (λ p. p.derailed) t false
 
 -- the segments of a route's path, in order
 abbrev pub segments : Station → ℕ → List ℕ

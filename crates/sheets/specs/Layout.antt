@@ -1,5 +1,6 @@
 -- Rows of the layout, read off the tokens ahead: the rows so far, the offset of the row's first word, the tokens.
-use Rattle.std.specs.Prelude.{ℕ, cond, List, [], Some, None, Option}
+use Rattle.std.specs.Prelude.{ℕ, cond, List, [], map, Some, None, vec_items, Option, Vec}
+use Rattle.std.specs.declared.alloc.Global.{Global}
 use Rattle.text.specs.Ahead.{Ahead}
 use Rattle.text.specs.Out.{Out, got, bad, bind}
 use Rattle.forms.specs.declared.lists.Listing.TheVariants.{Settings}
@@ -7,13 +8,17 @@ use Rattle.forms.specs.Heads as heads
 use Rattle.forms.specs.Heads.{Head}
 use Rattle.forms.specs.Things.{Spot}
 use Rattle.rows.specs.declared.filters.Kind.TheVariants as kind
+use Rattle.rows.specs.declared.rows.Row as row_type
 use Rattle.rows.specs.Filters.{full, known, crowded}
-use Rattle.rows.specs.Rows.{Row, segment_row, joint_row, point_row, way_row, signal_row}
+use Rattle.rows.specs.Rows.{Row, placed_row, segment_row, joint_row, point_row, way_row, signal_row}
 use Rattle.steps.specs.Words.{a_segment, a_joint, a_point, a_far}
 use Rattle.steps.specs.Pairs.{a_list}
 
 abbrev pub Sofar : Type 0
 Sofar = List (Row Spot)
+
+abbrev pub rows_of : Vec row_type.Row Global → Sofar
+rows_of v = map placed_row (vec_items v)
 
 -- `*SEG T_x`
 abbrev pub a_segment_row : Sofar → ℕ → Ahead → Out (Row Spot)

@@ -1,15 +1,11 @@
 -- A whole text: rows of the layout, `*DATA`, rows of the data.
-use Rattle.std.specs.Prelude.{ℕ, zero, suc, Bool, true, false, cond, List, [], ◌∷◌, ◌++◌, map, length, Some, None, vec_items, Option, Vec, nat_lt}
-use Rattle.std.specs.declared.alloc.Global.{Global}
+use Rattle.std.specs.Prelude.{ℕ, zero, suc, Bool, true, false, cond, List, [], ◌∷◌, ◌++◌, length, Some, None, Option, nat_lt}
 use Rattle.text.specs.Ahead.{Ahead, tokens_from}
 use Rattle.text.specs.Out.{Out, got, bad, bind}
 use Rattle.forms.specs.Heads.{Head, head}
 use Rattle.forms.specs.Things.{Spot}
-use Rattle.rows.specs.declared.rows.Row as row_type
-use Rattle.rows.specs.Rows.{Row, placed_row}
+use Rattle.rows.specs.Rows.{Row}
 use Rattle.steps.specs.Words.{a_word, a_star, a_star_or_end}
-use Rattle.sheets.specs.declared.sections.Part.{Part}
-use Rattle.sheets.specs.declared.sections.Part.TheVariants.{Layout, Data}
 use Rattle.sheets.specs.Layout.{Sofar, a_row, a_layout_row}
 use Rattle.sheets.specs.Data.{a_data_row}
 use Rattle.sheets.specs.Outcomes.{Outcome, outcome}
@@ -33,6 +29,10 @@ data_after rows (Some i) ts = bind (a_word ts) (λ w us. data_by_head rows w (he
 -- a row of the data, or nothing at the end of the text
 abbrev pub data_turn : Sofar → Ahead → Out (Option (Row Spot))
 data_turn rows ts = bind (a_star_or_end ts) (λ o us. data_after rows o us)
+
+pub data Part : Type 0 where
+  Layout : Part
+  Data : Part
 
 abbrev pub a_turn : Part → Sofar → Ahead → Out (Option (Row Spot))
 a_turn Layout rows ts = layout_turn rows ts
@@ -58,6 +58,3 @@ sheet_of n t = bind (section n n Layout [] (tokens_from t 0)) (λ rows ts. secti
 
 unfoldable pub sheet : List ℕ → Outcome Sofar
 sheet t = outcome (cond (nat_lt 32768 (length t)) (bad 1 0) (sheet_of (length t) t))
-
-abbrev pub rows_of : Vec row_type.Row Global → Sofar
-rows_of v = map placed_row (vec_items v)

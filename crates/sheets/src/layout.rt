@@ -1,17 +1,15 @@
 // Rows of the layout. `at` is the offset of the row's first word.
-ghost use Rattle.std.specs.Prelude.{◌≡◌, map};
+ghost use Rattle.std.specs.Prelude.{◌≡◌};
 ghost use Rattle.std.specs.Option.{option_map};
 ghost use Rattle.text.specs.Ahead.{tokens_ahead};
 ghost use Rattle.forms.specs.Heads.{headed};
 ghost use Rattle.rows.specs.Faults.{row_out, Reads};
 ghost use Rattle.rows.specs.Rows.{placed_row};
-ghost use Rattle.sheets.specs.Layout.{a_segment_row, a_joint_row, a_point_row, a_way_row, a_signal_row, a_layout_row};
+ghost use Rattle.sheets.specs.Layout.{rows_of, a_segment_row, a_joint_row, a_point_row, a_way_row, a_signal_row, a_layout_row};
 
+use crate::sofar::Sofar;
 use forms::{Head, Listing};
-use rows::{
-    JointRow, Kind, PointRow, ReadingFault, Row, RowFault, SignalRow, WayRow, crowded, full, known,
-};
-use std::alloc::Global;
+use rows::{JointRow, Key, Kind, PointRow, ReadingFault, Row, RowFault, SignalRow, WayRow};
 use steps::{far, joint, pairs, point, segment};
 use text::Reader;
 
@@ -25,113 +23,82 @@ const WAYS: usize = 96;
 
 const SIGNALS: usize = 48;
 
-fn segment_row<'a>(
-    reader: &mut Reader<'a>,
-    rows: &[Row<'a>],
-    at: usize,
-) -> Result<Row<'a>, RowFault>
-    ensures { row_out placed_row result (tokens_ahead reader.new) ≡ a_segment_row (map placed_row rows.now) at (tokens_ahead reader.old) }
-{
-    if full(rows, Kind::Segment, SEGMENTS) {
-        return Err(RowFault::Limit(at));
+impl<'a> Sofar<'a> {
+    fn segment_row(&self, reader: &mut Reader<'a>, at: usize) -> Result<Row<'a>, RowFault>
+        ensures { row_out placed_row result (tokens_ahead reader.new) ≡ a_segment_row (rows_of self.now.rows) at (tokens_ahead reader.old) }
+    {
+        self.room(Kind::Segment, SEGMENTS, at)?;
+        let name = segment(reader)?;
+        self.fresh(Kind::Segment, Key::from(name), name.at)?;
+        Ok(Row::Segment(name))
     }
-    let name = segment(reader)?;
-    if known(rows, Kind::Segment, name.octets, b"") {
-        return Err(RowFault::Twice(name.at));
-    }
-    Ok(Row::Segment(name))
-}
 
-fn joint_row<'a>(reader: &mut Reader<'a>, rows: &[Row<'a>], at: usize) -> Result<Row<'a>, RowFault>
-    ensures { row_out placed_row result (tokens_ahead reader.new) ≡ a_joint_row (map placed_row rows.now) at (tokens_ahead reader.old) }
-{
-    if full(rows, Kind::Joint, JOINTS) {
-        return Err(RowFault::Limit(at));
+    fn joint_row(&self, reader: &mut Reader<'a>, at: usize) -> Result<Row<'a>, RowFault>
+        ensures { row_out placed_row result (tokens_ahead reader.new) ≡ a_joint_row (rows_of self.now.rows) at (tokens_ahead reader.old) }
+    {
+        self.room(Kind::Joint, JOINTS, at)?;
+        let name = joint(reader)?;
+        self.fresh(Kind::Joint, Key::from(name), name.at)?;
+        let segment = segment(reader)?;
+        let far = far(reader)?;
+        Ok(Row::Joint(JointRow { name, segment, far }))
     }
-    let name = joint(reader)?;
-    if known(rows, Kind::Joint, name.octets, b"") {
-        return Err(RowFault::Twice(name.at));
-    }
-    let segment = segment(reader)?;
-    let far = far(reader)?;
-    Ok(Row::Joint(JointRow { name, segment, far }))
-}
 
-fn point_row<'a>(reader: &mut Reader<'a>, rows: &[Row<'a>], at: usize) -> Result<Row<'a>, RowFault>
-    ensures { row_out placed_row result (tokens_ahead reader.new) ≡ a_point_row (map placed_row rows.now) at (tokens_ahead reader.old) }
-{
-    if full(rows, Kind::Point, POINTS) {
-        return Err(RowFault::Limit(at));
+    fn point_row(&self, reader: &mut Reader<'a>, at: usize) -> Result<Row<'a>, RowFault>
+        ensures { row_out placed_row result (tokens_ahead reader.new) ≡ a_point_row (rows_of self.now.rows) at (tokens_ahead reader.old) }
+    {
+        self.room(Kind::Point, POINTS, at)?;
+        let name = point(reader)?;
+        self.fresh(Kind::Point, Key::from(name), name.at)?;
+        let home = segment(reader)?;
+        self.uncrowded(home)?;
+        Ok(Row::Point(PointRow { name, home }))
     }
-    let name = point(reader)?;
-    if known(rows, Kind::Point, name.octets, b"") {
-        return Err(RowFault::Twice(name.at));
-    }
-    let home = segment(reader)?;
-    if crowded(rows, home.octets) {
-        return Err(RowFault::Limit(home.at));
-    }
-    Ok(Row::Point(PointRow { name, home }))
-}
 
-fn way_row<'a>(
-    reader: &mut Reader<'a>,
-    heap: Global,
-    rows: &[Row<'a>],
-    at: usize,
-) -> Result<Row<'a>, ReadingFault>
-    ensures { Reads placed_row result (tokens_ahead reader.new) (a_way_row (map placed_row rows.now) at (tokens_ahead reader.old)) }
-{
-    if full(rows, Kind::Way, WAYS) {
-        return Err(ReadingFault::Row(RowFault::Limit(at)));
+    fn way_row(&self, reader: &mut Reader<'a>, at: usize) -> Result<Row<'a>, ReadingFault>
+        ensures { Reads placed_row result (tokens_ahead reader.new) (a_way_row (rows_of self.now.rows) at (tokens_ahead reader.old)) }
+    {
+        self.room(Kind::Way, WAYS, at)?;
+        let segment = segment(reader)?;
+        let from = joint(reader)?;
+        let to = joint(reader)?;
+        let settings = pairs(reader, self.heap, Listing::Settings)?;
+        Ok(Row::Way(WayRow {
+            segment,
+            from,
+            to,
+            settings,
+        }))
     }
-    let segment = segment(reader)?;
-    let from = joint(reader)?;
-    let to = joint(reader)?;
-    let settings = pairs(reader, heap, Listing::Settings)?;
-    Ok(Row::Way(WayRow {
-        segment,
-        from,
-        to,
-        settings,
-    }))
-}
 
-fn signal_row<'a>(reader: &mut Reader<'a>, rows: &[Row<'a>], at: usize) -> Result<Row<'a>, RowFault>
-    ensures { row_out placed_row result (tokens_ahead reader.new) ≡ a_signal_row (map placed_row rows.now) at (tokens_ahead reader.old) }
-{
-    if full(rows, Kind::Signal, SIGNALS) {
-        return Err(RowFault::Limit(at));
+    fn signal_row(&self, reader: &mut Reader<'a>, at: usize) -> Result<Row<'a>, RowFault>
+        ensures { row_out placed_row result (tokens_ahead reader.new) ≡ a_signal_row (rows_of self.now.rows) at (tokens_ahead reader.old) }
+    {
+        self.room(Kind::Signal, SIGNALS, at)?;
+        let joint = joint(reader)?;
+        let segment = segment(reader)?;
+        self.fresh(Kind::Signal, Key::from((joint, segment)), joint.at)?;
+        Ok(Row::Signal(SignalRow { joint, segment }))
     }
-    let joint = joint(reader)?;
-    let segment = segment(reader)?;
-    if known(rows, Kind::Signal, joint.octets, segment.octets) {
-        return Err(RowFault::Twice(joint.at));
-    }
-    Ok(Row::Signal(SignalRow { joint, segment }))
-}
 
-// A row of the layout after its head; nothing after `DATA`.
-pub fn layout_row<'a>(
-    reader: &mut Reader<'a>,
-    heap: Global,
-    rows: &[Row<'a>],
-    at: usize,
-    head: Head<'a>,
-) -> Result<Option<Row<'a>>, ReadingFault>
-    ensures { Reads (option_map placed_row) result (tokens_ahead reader.new) (a_layout_row (map placed_row rows.now) at (headed head.entry) (tokens_ahead reader.old)) }
-{
-    match head {
-        Head::Segment => Ok(Some(segment_row(reader, rows, at)?)),
-        Head::Joint => Ok(Some(joint_row(reader, rows, at)?)),
-        Head::Point => Ok(Some(point_row(reader, rows, at)?)),
-        Head::Way => Ok(Some(way_row(reader, heap, rows, at)?)),
-        Head::Signal => Ok(Some(signal_row(reader, rows, at)?)),
-        Head::Data => Ok(None),
-        Head::Request(_) => Err(ReadingFault::Row(RowFault::Form(at))),
-        Head::Activation(_) => Err(ReadingFault::Row(RowFault::Form(at))),
-        Head::PointRow(_, _) => Err(ReadingFault::Row(RowFault::Form(at))),
-        Head::Release(_, _) => Err(ReadingFault::Row(RowFault::Form(at))),
-        Head::Zone(_) => Err(ReadingFault::Row(RowFault::Form(at))),
+    // A row of the layout after its head; nothing after `DATA`.
+    pub fn layout_row(
+        &self,
+        reader: &mut Reader<'a>,
+        at: usize,
+        head: Head<'a>,
+    ) -> Result<Option<Row<'a>>, ReadingFault>
+        ensures { Reads (option_map placed_row) result (tokens_ahead reader.new) (a_layout_row (rows_of self.now.rows) at (headed head.entry) (tokens_ahead reader.old)) }
+    {
+        let row = match head {
+            Head::Segment => self.segment_row(reader, at)?,
+            Head::Joint => self.joint_row(reader, at)?,
+            Head::Point => self.point_row(reader, at)?,
+            Head::Way => self.way_row(reader, at)?,
+            Head::Signal => self.signal_row(reader, at)?,
+            Head::Data => return Ok(None),
+            _ => return Err(RowFault::Form(at).into()),
+        };
+        Ok(Some(row))
     }
 }

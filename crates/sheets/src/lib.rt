@@ -4,5 +4,6 @@
 mod data;
 mod layout;
 mod sections;
+mod sofar;
 
 pub use sections::sheet;

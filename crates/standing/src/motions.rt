@@ -1,8 +1,10 @@
 // The refusals of the calls on points and signals and of the questions, in their order; and whether a segment is clear.
-ghost use Rattle.std.specs.Prelude.{◌≡◌, length};
+ghost use Rattle.std.specs.Prelude.{◌≡◌, None, length};
 ghost use Rattle.station.specs.Station.{station};
-ghost use Rattle.track.specs.Calls.{point_refusal, segment_refusal, settle_refusal, signal_refusal, train_refusal};
-ghost use Rattle.track.specs.Meaning.{clear, fits};
+ghost use Rattle.track.specs.Calls.{numbered, point_refusal, segment_refusal, settle_refusal, signal_refusal, train_refusal};
+ghost use Rattle.track.specs.Meaning.{clear, fits, train_at};
+ghost use Rattle.track.specs.Refusals.{answer};
+ghost use Rattle.track.specs.Trains.{holds};
 
 use crate::standing::Standing;
 use lookups::{point_count, signal_count};
@@ -25,77 +27,62 @@ fn segment_count(tables: &Tables) -> usize
     tables.segments.len()
 }
 
-pub fn point_refusal<S: Standing>(tables: &Tables, track: &S, point: usize) -> Option<Refusal>
-    ensures { result ≡ point_refusal (station tables.now) (S.Standing.told track.now) point }
+// Refuses where the track is another one than the tables', or where n is not one of so many numbers.
+fn numbered<S: Standing>(tables: &Tables, track: &S, n: usize, count: usize) -> Result<(), Refusal>
+    ensures { result ≡ answer (numbered (station tables.now) (S.Standing.told track.now) n count None) tt }
 {
     if !fits(tables, track) {
-        return Some(Refusal::Mismatch);
+        return Err(Refusal::Mismatch);
     }
-    if point >= track.points() {
-        return Some(Refusal::Unknown);
+    if n >= count {
+        return Err(Refusal::Unknown);
     }
-    None
+    Ok(())
 }
 
-pub fn settle_refusal<S: Standing>(tables: &Tables, track: &S, point: usize) -> Option<Refusal>
-    ensures { result ≡ settle_refusal (station tables.now) (S.Standing.told track.now) point }
+pub fn point_refusal<S: Standing>(tables: &Tables, track: &S, point: usize) -> Result<(), Refusal>
+    ensures { result ≡ answer (point_refusal (station tables.now) (S.Standing.told track.now) point) tt }
 {
-    if !fits(tables, track) {
-        return Some(Refusal::Mismatch);
-    }
-    if point >= track.points() {
-        return Some(Refusal::Unknown);
-    }
+    numbered(tables, track, point, track.points())
+}
+
+pub fn settle_refusal<S: Standing>(tables: &Tables, track: &S, point: usize) -> Result<(), Refusal>
+    ensures { result ≡ answer (settle_refusal (station tables.now) (S.Standing.told track.now) point) tt }
+{
+    point_refusal(tables, track, point)?;
     if track.point_at(point).settled {
-        return Some(Refusal::AtRest);
+        return Err(Refusal::AtRest);
     }
-    None
+    Ok(())
 }
 
-pub fn signal_refusal<S: Standing>(tables: &Tables, track: &S, signal: usize) -> Option<Refusal>
-    ensures { result ≡ signal_refusal (station tables.now) (S.Standing.told track.now) signal }
+pub fn signal_refusal<S: Standing>(tables: &Tables, track: &S, signal: usize) -> Result<(), Refusal>
+    ensures { result ≡ answer (signal_refusal (station tables.now) (S.Standing.told track.now) signal) tt }
 {
-    if !fits(tables, track) {
-        return Some(Refusal::Mismatch);
-    }
-    if signal >= track.signals() {
-        return Some(Refusal::Unknown);
-    }
-    None
+    numbered(tables, track, signal, track.signals())
 }
 
-pub fn train_refusal<S: Standing>(tables: &Tables, track: &S, train: usize) -> Option<Refusal>
-    ensures { result ≡ train_refusal (station tables.now) (S.Standing.told track.now) train }
+pub fn train_refusal<S: Standing>(tables: &Tables, track: &S, train: usize) -> Result<(), Refusal>
+    ensures { result ≡ answer (train_refusal (station tables.now) (S.Standing.told track.now) train) tt }
 {
-    if !fits(tables, track) {
-        return Some(Refusal::Mismatch);
-    }
-    if train >= TRAINS {
-        return Some(Refusal::Unknown);
-    }
-    None
+    numbered(tables, track, train, TRAINS)
 }
 
-pub fn clear_refusal<S: Standing>(tables: &Tables, track: &S, segment: usize) -> Option<Refusal>
-    ensures { result ≡ segment_refusal (station tables.now) (S.Standing.told track.now) segment }
+pub fn clear_refusal<S: Standing>(tables: &Tables, track: &S, segment: usize) -> Result<(), Refusal>
+    ensures { result ≡ answer (segment_refusal (station tables.now) (S.Standing.told track.now) segment) tt }
 {
-    if !fits(tables, track) {
-        return Some(Refusal::Mismatch);
-    }
-    if segment >= segment_count(tables) {
-        return Some(Refusal::Unknown);
-    }
-    None
+    numbered(tables, track, segment, segment_count(tables))
+}
+
+fn train_holds<S: Standing>(track: &S, train: usize, segment: usize) -> bool
+    ensures { result ≡ holds (train_at (S.Standing.told track.now) train) segment }
+{
+    track.train_at(train).is_some_and(|p| p.holds(segment))
 }
 
 // Whether no train holds the segment.
 pub fn is_clear<S: Standing>(track: &S, segment: usize) -> bool
     ensures { result ≡ clear (S.Standing.told track.now) segment }
 {
-    for i in 0..TRAINS {
-        if track.train_at(i).holds(segment) {
-            return false;
-        }
-    }
-    true
+    !(0..TRAINS).any(|i| train_holds(track, i, segment))
 }

@@ -1,5 +1,6 @@
--- The refusals of an interlocking by number, and what a call answers and leaves that is refused or not.
-use Rattle.std.specs.Prelude.{ℕ, Some, None, Ok, Err, Option, Result}
+-- The refusals of an interlocking by number.
+use Rattle.std.specs.Prelude.{ℕ, Some, None, Option}
+use Rattle.std.specs.Option.{option_map}
 use Rattle.track.specs.Refusals as refusals
 use Rattle.states.specs.declared.denials.Denial.{Denial}
 use Rattle.states.specs.declared.denials.Denial.TheVariants.{Track, Unknown, Occupied, Fails, Idle}
@@ -19,17 +20,6 @@ place_of Occupied = None
 place_of (Fails k) = Some k
 place_of Idle = None
 
--- the answer of a call: its refusal, or its value
-abbrev pub answer : {A : Type 0} → Option Denial → A → Result A Denial
-answer None x = Ok x
-answer (Some e) x = Err e
-
--- what a call leaves: all as it was, where it is refused
-abbrev pub after : {S : Type 0} → Option Denial → S → S → S
-after None old new = new
-after (Some e) old new = old
-
 -- the place of the first test that fails, where one does
 abbrev pub by_test : Option ℕ → Option Denial
-by_test None = None
-by_test (Some k) = Some (Fails k)
+by_test o = option_map (λ k. Fails k) o

@@ -23,11 +23,6 @@ is_unset Unset = true
 is_unset Set = false
 is_unset Active = false
 
-abbrev pub is_set : RouteState → Bool
-is_set Unset = false
-is_set Set = true
-is_set Active = false
-
 abbrev pub is_active : RouteState → Bool
 is_active Unset = false
 is_active Set = false

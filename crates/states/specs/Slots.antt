@@ -1,5 +1,6 @@
 -- The slots of an interlocking: 48 routes, 192 subroutes, 32 zones and the notes of 16 trains, by number.
-use Rattle.std.specs.Prelude.{ℕ, ◌+◌, Bool, false, cond, replicate, Some, None, Option, nat_lt, slice_index_or, slice_set}
+use Rattle.std.specs.Prelude.{ℕ, ◌+◌, Bool, false, cond, replicate, None, Option, nat_lt, slice_index_or, slice_set}
+use Rattle.std.specs.Option.{option_map_or}
 use Rattle.station.specs.declared.tests.Lock.{Lock}
 use Rattle.station.specs.declared.tests.Lock.TheVariants.{Zone, Subroute}
 use Rattle.states.specs.Routes.{next_state}
@@ -28,8 +29,7 @@ abbrev pub with_route : States → ℕ → RouteState → States
 with_route s r x = record { routes = slice_set s.routes r x; subroutes = s.subroutes; zones = s.zones; notes = s.notes }
 
 abbrev pub with_next : States → ℕ → Option RouteState → States
-with_next s r None = s
-with_next s r (Some x) = with_route s r x
+with_next s r o = option_map_or (λ x. with_route s r x) o s
 
 -- what the event makes of the route; nothing changes where it does not fit the route's state
 abbrev pub moved : States → ℕ → Event → States

@@ -5,7 +5,7 @@ ghost use Rattle.states.specs.declared.denials.Denial.TheVariants.{Track};
 
 use track::Refusal;
 
-#[derive(Clone, Copy)]
+#[derive(Clone, Copy, PartialEq)]
 pub enum Denial {
     // what the trackside refuses: 31, and 34 to 40
     Track(Refusal),

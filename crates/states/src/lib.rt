@@ -9,4 +9,4 @@ mod writes;
 
 pub use denials::Denial;
 pub use routes::{Event, RouteState};
-pub use slots::{Note, States};
+pub use slots::{Note, ROUTES, SUBROUTES, States, TRAINS, ZONES};

@@ -1,17 +1,12 @@
-// A list read and written by number, past its end too.
-ghost use Rattle.std.specs.Prelude.{◌≡◌, slice_index_or, slice_set};
-
-// What stands at a number, or what stands for nothing past the end.
-pub(crate) fn at<T: Copy>(xs: &[T], n: usize, nothing: T) -> T
-    ensures { result ≡ slice_index_or xs.now n nothing }
-{
-    if n < xs.len() { xs[n] } else { nothing }
-}
+// A list written by number, past its end too.
+ghost use Rattle.std.specs.Prelude.{◌≡◌, slice_set};
 
 // Writes at a number. Past the end nothing changes.
+#[tactic(auto, using(std::proofs::lemmas::List::set_past))]
 pub(crate) fn put<T: Copy>(xs: &mut [T], n: usize, x: T)
     ensures { xs.new ≡ slice_set xs.old n x }
 {
+    // by index: the library's `get_mut` of a slice does not promise what the slice holds after a write through it
     if n < xs.len() {
         xs[n] = x;
     }

@@ -2,7 +2,7 @@
 ghost use Rattle.std.specs.Prelude.{◌≡◌};
 ghost use Rattle.states.specs.Routes.{is_unset, next_state};
 
-#[derive(Clone, Copy)]
+#[derive(Clone, Copy, PartialEq)]
 pub enum RouteState {
     Unset,
     Set,
@@ -10,7 +10,7 @@ pub enum RouteState {
 }
 
 // What happens to a route.
-#[derive(Clone, Copy)]
+#[derive(Clone, Copy, PartialEq)]
 pub enum Event {
     // its request is granted
     Request,
@@ -37,10 +37,6 @@ impl RouteState {
     pub fn is_unset(self) -> bool
         ensures { result ≡ is_unset self }
     {
-        match self {
-            RouteState::Unset => true,
-            RouteState::Set => false,
-            RouteState::Active => false,
-        }
+        self == RouteState::Unset
     }
 }

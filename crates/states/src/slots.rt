@@ -2,22 +2,21 @@
 ghost use Rattle.std.specs.Prelude.{◌≡◌};
 ghost use Rattle.states.specs.Slots.{fresh, is_locked, note_at, route_state};
 
-use crate::places::at;
 use crate::routes::RouteState;
 use station::Lock;
 
-// A station has at most so many routes, subroutes and zones.
-const ROUTES: usize = 48;
+// A station that is read from a text has at most so many routes, subroutes and zones.
+pub const ROUTES: usize = 48;
 
-const SUBROUTES: usize = 192;
+pub const SUBROUTES: usize = 192;
 
-const ZONES: usize = 32;
+pub const ZONES: usize = 32;
 
 // Trains are numbered 0 to 15.
-const TRAINS: usize = 16;
+pub const TRAINS: usize = 16;
 
 // A train's route, and how many segments it has entered since it passed the route's signal; at most 255 are counted.
-#[derive(Clone, Copy)]
+#[derive(Clone, Copy, PartialEq)]
 pub struct Note {
     pub route: usize,
     pub place: u8,
@@ -25,10 +24,10 @@ pub struct Note {
 
 #[derive(Clone, Copy)]
 pub struct States {
-    pub(crate) routes: [RouteState; 48],
-    pub(crate) subroutes: [bool; 192],
-    pub(crate) zones: [bool; 32],
-    pub(crate) notes: [Option<Note>; 16],
+    pub(crate) routes: [RouteState; ROUTES],
+    pub(crate) subroutes: [bool; SUBROUTES],
+    pub(crate) zones: [bool; ZONES],
+    pub(crate) notes: [Option<Note>; TRAINS],
 }
 
 impl States {
@@ -44,11 +43,11 @@ impl States {
         }
     }
 
-    // A route's state. One that has no slot is unset.
+    // A route's state. One that has no slot is unset. This and the next two are the library's `get` with a default of their own.
     pub fn route(&self, n: usize) -> RouteState
         ensures { result ≡ route_state self.now n }
     {
-        at(&self.routes, n, RouteState::Unset)
+        self.routes.get(n).copied().unwrap_or(RouteState::Unset)
     }
 
     // Whether a subroute or a zone is locked. One that has no slot is free.
@@ -56,8 +55,8 @@ impl States {
         ensures { result ≡ is_locked self.now lock }
     {
         match lock {
-            Lock::Zone(z) => at(&self.zones, z, false),
-            Lock::Subroute(u) => at(&self.subroutes, u, false),
+            Lock::Zone(z) => self.zones.get(z).copied().unwrap_or(false),
+            Lock::Subroute(u) => self.subroutes.get(u).copied().unwrap_or(false),
         }
     }
 
@@ -65,6 +64,6 @@ impl States {
     pub fn note(&self, train: usize) -> Option<Note>
         ensures { result ≡ note_at self.now train }
     {
-        at(&self.notes, train, None)
+        self.notes.get(train).copied().unwrap_or(None)
     }
 }

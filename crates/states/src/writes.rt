@@ -41,8 +41,8 @@ impl Note {
         ensures { result ≡ stepped self }
     {
         Note {
-            route: self.route,
             place: self.place.saturating_add(1),
+            ..self
         }
     }
 }

@@ -1,6 +1,7 @@
 -- What a path has, told by the actions that make it.
 use Rattle.std.proofs.Common.{◌≡◌, ℕ, Bool, ◌||◌, eqb, List, [], ◌∷◌, length, Decides, refl, ap}
 use Rattle.std.proofs.lemmas.Bool.Decides.{Decides-eqb, Decides-at}
+use Rattle.std.specs.List.{cons_option}
 use Rattle.firsts.specs.Lists.{any}
 use Rattle.firsts.proofs.Below.{decides_any_below}
 use Rattle.firsts.proofs.Elements.{decides_has}
@@ -10,18 +11,16 @@ use Rattle.station.specs.declared.tests.Lock.TheVariants.{Zone, Subroute}
 use Rattle.station.specs.Station.{Station}
 use Rattle.station.specs.Numbers.{route_at}
 use Rattle.station.specs.Alike.{same_action}
-use Rattle.station.specs.Paths.{taken, before, path_of, path, uses, Uses, used, Used, locks, Locks}
+use Rattle.station.specs.Paths.{taken, path_of, path, uses, Uses, used, Used, locks, Locks}
 use Rattle.station.proofs.Alike.{decides_action}
 
-step : (u : ℕ) (a : Action) (us : List ℕ) (b : Bool) → b ≡ any (eqb u) us → (same_action (Take (Subroute u)) a || b) ≡ any (eqb u) (before (taken a) us)
-unfolding any
+step : (u : ℕ) (a : Action) (us : List ℕ) (b : Bool) → b ≡ any (eqb u) us → (same_action (Take (Subroute u)) a || b) ≡ any (eqb u) (cons_option (taken a) us)
 step u (Set r) us b e = e
 step u (Drive p x) us b e = e
 step u (Take (Zone z)) us b e = e
 step u (Take (Subroute v)) us b e = ap (λ t. eqb u v || t) e
 
 in_path : (u : ℕ) (xs : List Action) → any (same_action (Take (Subroute u))) xs ≡ any (eqb u) (path_of xs)
-unfolding any path_of
 in_path u [] = refl
 in_path u (a ∷ more) = step u a (path_of more) (any (same_action (Take (Subroute u))) more) (in_path u more)
 

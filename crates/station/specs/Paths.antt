@@ -1,5 +1,5 @@
 -- A route's path, the routes that use a subroute, and the zones that a route locks.
-use Rattle.std.specs.Prelude.{ℕ, ◌<◌, Bool, List, [], ◌∷◌, length, Some, None, Contains, Option, slice_index}
+use Rattle.std.specs.Prelude.{ℕ, ◌<◌, Bool, List, length, Some, None, Contains, Option, slice_index, filter_map}
 use Rattle.firsts.specs.Claims.{any_below}
 use Rattle.firsts.specs.Lists.{any}
 use Rattle.station.specs.declared.tests.Action.{Action}
@@ -16,14 +16,9 @@ taken (Drive p x) = None
 taken (Take (Zone z)) = None
 taken (Take (Subroute u)) = Some u
 
-abbrev pub before : Option ℕ → List ℕ → List ℕ
-before None us = us
-before (Some u) us = u ∷ us
-
 -- the subroutes that the actions lock, in written order
-unfoldable pub path_of : List Action → List ℕ
-path_of [] = []
-path_of (a ∷ more) = before (taken a) (path_of more)
+abbrev pub path_of : List Action → List ℕ
+path_of actions = filter_map taken actions
 
 -- a route's path
 abbrev pub path : Station → ℕ → List ℕ

@@ -82,7 +82,7 @@ pub struct Tables {
     pub ways: Vec<Way>,
     pub signals: Vec<Signal>,
     pub routes: Vec<Route>,
-    // by subroute number: the release row's tests, where the text has such a row
+    // by subroute number: the release row's tests, where the text has such a row; beside the ways, since a subroute has a number of its own
     pub releases: Vec<Option<Vec<ReleaseTest>>>,
     pub zones: Vec<Zone>,
 }

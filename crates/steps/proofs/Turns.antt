@@ -1,14 +1,13 @@
 -- One turn over a list of pairs.
-use Rattle.std.proofs.Common.{◌≡◌, ℕ, zero, suc, ◌+◌, ◌-◌, ◌<◌, ◌≤◌, Bool, true, false, List, [], ◌∷◌, ◌++◌, length, sym, refl, ap, ◌∙◌, arith}
+use Rattle.std.proofs.Common.{◌≡◌, ℕ, zero, suc, ◌+◌, ◌-◌, ◌≤◌, Bool, true, false, List, [], ◌∷◌, ◌++◌, sym, refl, ap, ◌∙◌, arith}
 use Rattle.text.specs.Ahead.{Ahead}
 use Rattle.text.specs.Out.{Out, got, bad, bind, a_comma}
 use Rattle.forms.specs.declared.lists.Listing.{Listing}
 use Rattle.forms.specs.declared.lists.Listing.TheVariants.{Settings, RequestTests, Actions, ActivationTests, PointTests, ReleaseTests}
 use Rattle.forms.specs.Lists.{most}
-use Rattle.forms.specs.Things.{Spot, Thing}
-use Rattle.std.proofs.lemmas.Bool.{leb-false, or_parts}
+use Rattle.forms.specs.Things.{Spot}
 use Rattle.rows.specs.Rows.{Pair}
-use Rattle.steps.specs.Pairs.{a_list_begins, a_pair, pairs_from, a_list, too_many}
+use Rattle.steps.specs.Pairs.{a_list_begins, a_pair, pairs_from, a_list}
 
 module _ (list : Listing) (taken : List (Pair Spot)) where
   -- nothing is due
@@ -60,7 +59,3 @@ most_bound Actions = omega arith
 most_bound ActivationTests = omega arith
 most_bound PointTests = omega arith
 most_bound ReleaseTests = omega arith
-
--- where one more is not too many, there is room
-pub room_left : {N : Type 0} (list : Listing) (taken : List (Pair N)) (th : Thing N) → too_many list taken th ≡ false → length taken < most list
-room_left list taken th e = leb-false _ _ (or_parts _ _ e).0

@@ -9,7 +9,7 @@ ghost use Rattle.rows.specs.Rows.{placed_pair};
 ghost use Rattle.steps.specs.Pairs.{runs, in_path, subroutes, path_full, too_many, a_list_begins, a_pair, a_list, pairs_of};
 
 use crate::words::next_word;
-use forms::{Listing, Thing, is_text, thing_of};
+use forms::{Listing, State, Thing, thing_of};
 use rows::{Pair, ReadingFault, RowFault};
 use std::alloc::Global;
 use text::{Reader, Token};
@@ -20,63 +20,36 @@ const LONGEST_PATH: usize = 12;
 fn is_subroute<'a>(thing: Thing<'a>) -> bool
     ensures { result ≡ runs (placed thing.entry) }
 {
-    match thing {
-        Thing::Subroute(_, _) => true,
-        Thing::Segment(_) => false,
-        Thing::Point(_) => false,
-        Thing::Route(_) => false,
-        Thing::Zone(_) => false,
-    }
+    matches!(thing, Thing::Subroute(_, _))
 }
 
 // Whether the list is the one whose subroutes are a path.
 fn has_path(list: Listing) -> bool
     ensures { result ≡ in_path list }
 {
-    match list {
-        Listing::Actions => true,
-        Listing::Settings => false,
-        Listing::RequestTests => false,
-        Listing::ActivationTests => false,
-        Listing::PointTests => false,
-        Listing::ReleaseTests => false,
-    }
+    matches!(list, Listing::Actions)
 }
 
 // How many pairs are about subroutes.
+#[tactic(auto, unfolding(crate::specs::Pairs::subroutes))]
 fn subroutes<'a>(taken: &[Pair<'a>]) -> usize
     ensures { result ≡ subroutes (map placed_pair taken.now) }
 {
-    let mut n = 0;
-    for pair in taken {
-        if is_subroute(pair.thing) {
-            n += 1;
-        }
-    }
-    n
+    taken.iter().filter(|p| is_subroute(p.thing)).count()
 }
 
 // Whether one subroute more makes the path too long.
 fn path_full<'a>(list: Listing, taken: &[Pair<'a>], thing: Thing<'a>) -> bool
     ensures { result ≡ path_full list (map placed_pair taken.now) (placed thing.entry) }
 {
-    if !has_path(list) {
-        return false;
-    }
-    if !is_subroute(thing) {
-        return false;
-    }
-    subroutes(taken) >= LONGEST_PATH
+    has_path(list) && is_subroute(thing) && subroutes(taken) >= LONGEST_PATH
 }
 
-// Whether one pair more, about this thing, is too many.
+// Whether one pair more, about this thing, is too many. A struct of list and pairs would be made at its one call alone.
 fn too_many<'a>(list: Listing, taken: &[Pair<'a>], thing: Thing<'a>) -> bool
     ensures { result ≡ too_many list (map placed_pair taken.now) (placed thing.entry) }
 {
-    if taken.len() >= list.most() {
-        return true;
-    }
-    path_full(list, taken, thing)
+    taken.len() >= list.most() || path_full(list, taken, thing)
 }
 
 // A thing that may stand in the list, and a state that it takes there.
@@ -89,33 +62,24 @@ fn next_pair<'a>(
     ensures few { OnOk result (length taken.now < most list) }
 {
     let w = next_word(reader)?;
-    let Some(thing) = thing_of(w) else {
-        return Err(RowFault::Form(w.at));
-    };
-    let choice = list.choice(thing);
-    if !choice.admits() {
+    let thing = thing_of(w).ok_or(RowFault::Form(w.at))?;
+    let states = list.choice(thing);
+    if states.is_empty() {
         return Err(RowFault::Form(w.at));
     }
     if too_many(list, taken, thing) {
         return Err(RowFault::Limit(w.at));
     }
     let s = next_word(reader)?;
-    match choice.picked(s.octets) {
-        Some(state) => Ok(Pair { thing, state }),
-        None => Err(RowFault::Form(s.at)),
-    }
+    let state = State::among(states, s.octets).ok_or(RowFault::Form(s.at))?;
+    Ok(Pair { thing, state })
 }
 
 // Whether a pair comes next: a word other than `then`.
 fn list_begins<'a>(reader: &Reader<'a>) -> Result<bool, RowFault>
     ensures { row_out (λ b. b) result (tokens_ahead reader.now) ≡ a_list_begins (tokens_ahead reader.now) }
 {
-    match reader.peek()? {
-        Some(Token::Word(w)) => Ok(!is_text(w.octets, b"then")),
-        Some(Token::Star(_)) => Ok(false),
-        Some(Token::Comma(_)) => Ok(false),
-        None => Ok(false),
-    }
+    Ok(matches!(reader.peek()?, Some(Token::Word(w)) if w.octets != b"then".as_slice()))
 }
 
 fn comma<'a>(reader: &mut Reader<'a>) -> Result<bool, RowFault>
@@ -133,6 +97,7 @@ pub fn pairs<'a>(
     ensures { Reads pairs_of result (tokens_ahead reader.new) (a_list list (tokens_ahead reader.old)) }
 {
     let mut taken = Vec::new(heap);
+    // A flag is plainest here: a first pair is due by another test than those behind commas.
     let mut more = list_begins(reader)?;
     while more {
         let pair = next_pair(reader, list, taken.as_slice())?;

@@ -6,7 +6,7 @@ ghost use Rattle.rows.specs.Faults.{row_out};
 ghost use Rattle.rows.specs.Rows.{placed_far};
 ghost use Rattle.steps.specs.Words.{a_word, a_keyword, a_segment, a_joint, a_point, a_far, a_star, a_star_or_end};
 
-use forms::{Name, is_text, joint_of, point_of, segment_of};
+use forms::{Name, joint_of, point_of, segment_of};
 use rows::{Far, RowFault};
 use text::{Reader, Token, Word};
 
@@ -16,8 +16,7 @@ pub fn next_word<'a>(reader: &mut Reader<'a>) -> Result<Word<'a>, RowFault>
 {
     match reader.next()? {
         Some(Token::Word(w)) => Ok(w),
-        Some(Token::Star(at)) => Err(RowFault::Form(at)),
-        Some(Token::Comma(at)) => Err(RowFault::Form(at)),
+        Some(Token::Star(at) | Token::Comma(at)) => Err(RowFault::Form(at)),
         None => Err(RowFault::Form(reader.end())),
     }
 }
@@ -27,22 +26,19 @@ pub fn keyword<'a>(reader: &mut Reader<'a>, text: &[u8]) -> Result<Word<'a>, Row
     ensures { row_out spelled result (tokens_ahead reader.new) ≡ a_keyword text.now (tokens_ahead reader.old) }
 {
     let w = next_word(reader)?;
-    if is_text(w.octets, text) {
+    if w.octets == text {
         Ok(w)
     } else {
         Err(RowFault::Form(w.at))
     }
 }
 
-// `T_x`
+// `T_x`. This and the next two are two lines each: one function over their form would need a longer contract.
 pub fn segment<'a>(reader: &mut Reader<'a>) -> Result<Name<'a>, RowFault>
     ensures { row_out spot result (tokens_ahead reader.new) ≡ a_segment (tokens_ahead reader.old) }
 {
     let w = next_word(reader)?;
-    match segment_of(w) {
-        Some(name) => Ok(name),
-        None => Err(RowFault::Form(w.at)),
-    }
+    segment_of(w).ok_or(RowFault::Form(w.at))
 }
 
 // A joint's name.
@@ -50,10 +46,7 @@ pub fn joint<'a>(reader: &mut Reader<'a>) -> Result<Name<'a>, RowFault>
     ensures { row_out spot result (tokens_ahead reader.new) ≡ a_joint (tokens_ahead reader.old) }
 {
     let w = next_word(reader)?;
-    match joint_of(w) {
-        Some(name) => Ok(name),
-        None => Err(RowFault::Form(w.at)),
-    }
+    joint_of(w).ok_or(RowFault::Form(w.at))
 }
 
 // `P_x`
@@ -61,10 +54,7 @@ pub fn point<'a>(reader: &mut Reader<'a>) -> Result<Name<'a>, RowFault>
     ensures { row_out spot result (tokens_ahead reader.new) ≡ a_point (tokens_ahead reader.old) }
 {
     let w = next_word(reader)?;
-    match point_of(w) {
-        Some(name) => Ok(name),
-        None => Err(RowFault::Form(w.at)),
-    }
+    point_of(w).ok_or(RowFault::Form(w.at))
 }
 
 // A segment, `OUT` or `END`.
@@ -72,15 +62,10 @@ pub fn far<'a>(reader: &mut Reader<'a>) -> Result<Far<'a>, RowFault>
     ensures { row_out placed_far result (tokens_ahead reader.new) ≡ a_far (tokens_ahead reader.old) }
 {
     let w = next_word(reader)?;
-    if is_text(w.octets, b"OUT") {
-        return Ok(Far::Outside);
-    }
-    if is_text(w.octets, b"END") {
-        return Ok(Far::BufferStop);
-    }
-    match segment_of(w) {
-        Some(name) => Ok(Far::Segment(name)),
-        None => Err(RowFault::Form(w.at)),
+    match w.octets {
+        b"OUT" => Ok(Far::Outside),
+        b"END" => Ok(Far::BufferStop),
+        _ => segment_of(w).map(Far::Segment).ok_or(RowFault::Form(w.at)),
     }
 }
 
@@ -90,13 +75,12 @@ pub fn row_star<'a>(reader: &mut Reader<'a>) -> Result<usize, RowFault>
 {
     match reader.next()? {
         Some(Token::Star(at)) => Ok(at),
-        Some(Token::Word(w)) => Err(RowFault::Form(w.at)),
-        Some(Token::Comma(at)) => Err(RowFault::Form(at)),
+        Some(Token::Comma(at) | Token::Word(Word { at, .. })) => Err(RowFault::Form(at)),
         None => Err(RowFault::Form(reader.end())),
     }
 }
 
-// The star of a row, or nothing at the end of the text.
+// The star of a row, or nothing at the end of the text. By a match, since one arm reads on and may refuse.
 pub fn star_or_end<'a>(reader: &mut Reader<'a>) -> Result<Option<usize>, RowFault>
     ensures { row_out (λ o. o) result (tokens_ahead reader.new) ≡ a_star_or_end (tokens_ahead reader.old) }
 {

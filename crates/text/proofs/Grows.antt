@@ -1,9 +1,9 @@
 -- A token takes an octet at least.
-use Rattle.std.proofs.Common.{◌≡◌, ℕ, ◌+◌, ◌<◌, ◌≤◌, Bool, true, false, cond, eqb, leb, List, length, get_or, Some, None, Ok, refl, arith}
+use Rattle.std.proofs.Common.{◌≡◌, ℕ, ◌+◌, ◌<◌, ◌≤◌, Bool, true, false, cond, eqb, leb, List, length, get_or, slice_range, Some, None, Ok, refl, arith}
 use Rattle.std.proofs.lemmas.Bool.{leb-false, le-leb, or_from, not_from_false, cond-true}
 use Rattle.text.specs.declared.octets.Class.TheVariants.{Blank, Inner}
 use Rattle.text.specs.Octets.{blank, past}
-use Rattle.text.specs.Tokens.{Item, star, comma, word_between, as_item, token_at, end_at, next_token, next_place}
+use Rattle.text.specs.Tokens.{Item, star, comma, checked, as_item, token_at, end_at, next_token, next_place}
 use Rattle.text.proofs.Pasts.{past_yes, past_stops}
 
 module _ (t : List ℕ) (s : ℕ) where
@@ -15,7 +15,7 @@ module _ (t : List ℕ) (s : ℕ) where
       let e = past_yes Inner t s h (not_from_false _ (or_from _ _ b (or_from _ _ m n))) in omega (arith, e)
 
   grows_by : (x : Item) (l m n : Bool) → leb (length t) s ≡ l → eqb octet 42 ≡ m → eqb octet 44 ≡ n → (s < length t → blank octet ≡ false)
-      → cond l (Ok None) (cond m (Ok (Some (star s))) (cond n (Ok (Some (comma s))) (as_item s (word_between t s (past Inner t s))))) ≡ Ok (Some x)
+      → cond l (Ok None) (cond m (Ok (Some (star s))) (cond n (Ok (Some (comma s))) (as_item s (checked s (slice_range t s (past Inner t s)))))) ≡ Ok (Some x)
       → s < cond l s (cond m (s + 1) (cond n (s + 1) (past Inner t s)))
   grows_by x true m n el em en b e = let z : ◌≡◌ {A = ℕ} 0 1 = cc in absurd (omega arith)
   grows_by x false true n el em en b e = omega arith

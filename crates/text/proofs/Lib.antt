@@ -1,4 +1,3 @@
 pub mod Pasts
 pub mod Grows
 pub mod Steps
-pub mod Looks

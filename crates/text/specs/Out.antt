@@ -1,8 +1,6 @@
 -- What a step over the tokens ahead comes to: a value and the tokens then ahead, or a fault by number and offset.
 use Rattle.std.specs.Prelude.{ℕ, Bool, true, false, Some, None, Ok, Err, Option, Result}
 use Rattle.text.specs.declared.faults.WordFault.{WordFault}
-use Rattle.text.specs.declared.tokens.Token.{Token}
-use Rattle.text.specs.declared.tokens.Token.TheVariants.{Star, Comma, Word}
 use Rattle.text.specs.Faults.{word_number, word_offset}
 use Rattle.text.specs.Tokens.{Item, star, comma, word}
 use Rattle.text.specs.Ahead.{Ahead, ends, spoilt, token}
@@ -34,9 +32,3 @@ a_comma (spoilt n i) = bad n i
 a_comma (token (star i) ts) = got false (token (star i) ts)
 a_comma (token (comma i) ts) = got true ts
 a_comma (token (word i w) ts) = got false (token (word i w) ts)
-
-abbrev pub comma_next : Option Token → Bool
-comma_next None = false
-comma_next (Some (Star i)) = false
-comma_next (Some (Comma i)) = true
-comma_next (Some (Word w)) = false

@@ -1,12 +1,12 @@
 -- The token that a text has next from a place on, and where it ends.
-use Rattle.std.specs.Prelude.{ℕ, ◌+◌, ◌-◌, cond, List, length, Some, None, Ok, Err, Option, Result, ◌==◌, nat_le, nat_lt, slice_index, slice_range}
-use Rattle.std.specs.Borrow.{Bor}
+use Rattle.std.specs.Prelude.{ℕ, ◌+◌, cond, List, length, Some, None, Ok, Err, Option, Result, ◌==◌, nat_le, nat_lt, slice_index, slice_range}
+use Rattle.std.specs.List.{list_all}
 use Rattle.text.specs.declared.faults.WordFault.{WordFault}
 use Rattle.text.specs.declared.faults.WordFault.TheVariants.{Octet, Long}
-use Rattle.text.specs.declared.octets.Class.TheVariants.{Blank, Inner, Allowed}
+use Rattle.text.specs.declared.octets.Class.TheVariants.{Blank, Inner}
 use Rattle.text.specs.declared.tokens.Token.{Token}
 use Rattle.text.specs.declared.tokens.Token.TheVariants.{Star, Comma, Word}
-use Rattle.text.specs.Octets.{past}
+use Rattle.text.specs.Octets.{allowed, past}
 
 -- a token with its offset: a mark, or a word's octets
 pub data Item : Type 0 where
@@ -25,14 +25,9 @@ yielded (Ok None) = Ok None
 yielded (Ok (Some t)) = Ok (Some (item t))
 yielded (Err e) = Err e
 
-abbrev pub word_of : Result (Bor (List ℕ)) WordFault → Result (List ℕ) WordFault
-word_of (Ok w) = Ok w.now
-word_of (Err e) = Err e
-
--- the word that begins at i and ends before j: an octet that is not allowed comes before too great a length
-abbrev pub word_between : List ℕ → ℕ → ℕ → Result (List ℕ) WordFault
-word_between t i j =
-    cond (nat_lt (past Allowed t i) j) (Err (Octet i)) (cond (nat_lt 16 (j - i)) (Err (Long i)) (Ok (slice_range t i j)))
+-- a word's octets that begin at i: one that is not allowed comes before too great a length
+abbrev pub checked : ℕ → List ℕ → Result (List ℕ) WordFault
+checked i w = cond (list_all allowed w) (cond (nat_lt 16 (length w)) (Err (Long i)) (Ok w)) (Err (Octet i))
 
 abbrev pub as_item : ℕ → Result (List ℕ) WordFault → Result (Option Item) WordFault
 as_item i (Ok w) = Ok (Some (word i w))
@@ -44,7 +39,7 @@ token_at t i =
     cond (nat_le (length t) i) (Ok None)
     (cond (slice_index t i == 42) (Ok (Some (star i)))
     (cond (slice_index t i == 44) (Ok (Some (comma i)))
-    (as_item i (word_between t i (past Inner t i)))))
+    (as_item i (checked i (slice_range t i (past Inner t i))))))
 
 -- where the token that begins at i ends
 abbrev pub end_at : List ℕ → ℕ → ℕ

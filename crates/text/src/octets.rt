@@ -1,7 +1,7 @@
 // Classes of octets, and runs of one class.
 ghost use Rattle.std.specs.Prelude.{◌≡◌, ◌≤◌, length};
-ghost use Rattle.std.specs.List.{prefix_len};
-ghost use Rattle.text.specs.Octets.{has, past};
+ghost use Rattle.std.specs.List.{list_all, prefix_len};
+ghost use Rattle.text.specs.Octets.{has};
 
 #[derive(Clone, Copy)]
 pub enum Class {
@@ -31,24 +31,18 @@ impl Class {
         }
     }
 
+    // Whether all octets are of the class.
+    pub fn all(self, octets: &[u8]) -> bool
+        ensures { result ≡ list_all (has self) octets.now }
+    {
+        octets.iter().all(|b| self.has(*b))
+    }
+
     // How many octets at the front are of the class.
     pub fn run(self, octets: &[u8]) -> usize
         ensures value { result ≡ prefix_len (has self) octets.now }
         ensures bound { result ≤ length octets.now }
     {
-        run_end(octets, 0, self)
+        octets.iter().take_while(|b| self.has(**b)).count()
     }
-}
-
-// The first place from `at` on whose octet is not of the class, or the text's end.
-pub fn run_end(text: &[u8], at: usize, class: Class) -> usize
-    requires { at ≤ length text.now }
-    ensures value { result ≡ past class text.now at }
-    ensures bound { (at ≤ result) × (result ≤ length text.now) }
-{
-    let mut i = at;
-    while i < text.len() && class.has(text[i]) {
-        i += 1;
-    }
-    i
 }

@@ -1,16 +1,17 @@
 -- The eleven calls of a trackside: when each is refused, what it answers, and what it leaves.
-use Rattle.std.specs.Prelude.{◌≡◌, ℕ, Bool, true, false, cond, length, Some, None, Ok, Err, Option, Result, nat_lt}
+use Rattle.std.specs.Prelude.{◌≡◌, ℕ, Bool, true, false, cond, length, Some, None, Option, Result, nat_lt}
+use Rattle.std.specs.Result.{result_unwrap_or}
 use Rattle.station.specs.Alike.{same_position}
 use Rattle.station.specs.Station.{Station}
 use Rattle.station.specs.declared.tests.Position.{Position}
 use Rattle.track.specs.Meaning.{Meaning, a_point, aspect_at, clear, fits, put, state_at, train_at, with_aspect, with_point}
-use Rattle.track.specs.Refusals.{after, answer}
+use Rattle.track.specs.Refusals.{after, answer, plainly}
 use Rattle.track.specs.Steps.{enter_step, front_step, rear_step, turn_step}
+use Rattle.track.specs.Trains.{Train}
 use Rattle.track.specs.declared.refusals.Refusal.{Refusal}
 use Rattle.track.specs.declared.refusals.Refusal.TheVariants.{Unknown, AtRest, Mismatch}
 use Rattle.track.specs.declared.states.Aspect.{Aspect}
 use Rattle.track.specs.declared.states.PointState.{PointState}
-use Rattle.track.specs.declared.states.Train.{Train}
 
 -- the track fits the station, and i is one of n numbers
 abbrev pub numbered : Station → Meaning → ℕ → ℕ → Option Refusal → Option Refusal
@@ -40,9 +41,8 @@ abbrev pub settled_so : Meaning → ℕ → Bool → Meaning
 settled_so m i b = cond b (with_point m i (a_point (state_at m i).target true)) m
 
 -- the truth value that was answered
-abbrev pub said : Result Bool Refusal → Bool
-said (Ok b) = b
-said (Err e) = false
+abbrev pub said : {E : Type 0} → Result Bool E → Bool
+said r = result_unwrap_or r false
 
 -- the track chooses whether a driven point is settled at once
 pub record Drives (s : Station) (m : Meaning) (i : ℕ) (to : Position) (r : Result Unit Refusal) (n : Meaning) : Type 0 where
@@ -59,19 +59,19 @@ pub record Shows (s : Station) (m : Meaning) (i : ℕ) (a : Aspect) (r : Result 
   pub leaves : n ≡ after (signal_refusal s m i) m (with_aspect m i a)
 
 pub record Enters (s : Station) (m : Meaning) (i g : ℕ) (r : Result Unit Refusal) (n : Meaning) : Type 0 where
-  pub answers : r ≡ answer (enter_step s m i g).refusal tt
+  pub answers : r ≡ plainly (enter_step s m i g).answer
   pub leaves : n ≡ put m i (enter_step s m i g).train
 
 pub record Fronts (s : Station) (m : Meaning) (i : ℕ) (r : Result (Option ℕ) Refusal) (n : Meaning) : Type 0 where
-  pub answers : r ≡ answer (front_step s m i).refusal (front_step s m i).passed
+  pub answers : r ≡ (front_step s m i).answer
   pub leaves : n ≡ put m i (front_step s m i).train
 
 pub record Rears (s : Station) (m : Meaning) (i : ℕ) (r : Result Unit Refusal) (n : Meaning) : Type 0 where
-  pub answers : r ≡ answer (rear_step s m i).refusal tt
+  pub answers : r ≡ plainly (rear_step s m i).answer
   pub leaves : n ≡ put m i (rear_step s m i).train
 
 pub record Turns (s : Station) (m : Meaning) (i : ℕ) (r : Result Unit Refusal) (n : Meaning) : Type 0 where
-  pub answers : r ≡ answer (turn_step s m i).refusal tt
+  pub answers : r ≡ plainly (turn_step s m i).answer
   pub leaves : n ≡ put m i (turn_step s m i).train
 
 -- the four questions

@@ -5,12 +5,10 @@ use Rattle.acceptance.specs.declared.accepted.Accepted.{Accepted}
 use Rattle.station.specs.declared.tests.Position.{Position}
 use Rattle.station.specs.declared.tests.Position.TheVariants.{Normal}
 use Rattle.station.specs.Station.{Station, station}
-use Rattle.track.specs.Trains.{holds}
+use Rattle.track.specs.Trains.{holds, Train}
 use Rattle.track.specs.declared.states.Aspect.{Aspect}
 use Rattle.track.specs.declared.states.Aspect.TheVariants.{Stop}
 use Rattle.track.specs.declared.states.PointState.{PointState}
-use Rattle.track.specs.declared.states.Train.{Train}
-use Rattle.track.specs.declared.states.Train.TheVariants.{Absent}
 
 pub record Meaning : Type 0 where
   pub points : List PointState
@@ -35,7 +33,7 @@ abbrev pub aspect_at : Meaning → ℕ → Aspect
 aspect_at m i = slice_index_or m.signals i Stop
 
 abbrev pub train_at : Meaning → ℕ → Train
-train_at m i = slice_index_or m.trains i Absent
+train_at m i = slice_index_or m.trains i None
 
 abbrev pub with_point : Meaning → ℕ → PointState → Meaning
 with_point m i p = record { points = slice_set m.points i p; signals = m.signals; trains = m.trains }
@@ -64,5 +62,5 @@ abbrev pub at_rest : Station → Meaning
 at_rest s = record {
   points = replicate (length s.points) (a_point Normal true);
   signals = replicate (length s.signals) Stop;
-  trains = replicate 16 Absent;
+  trains = replicate 16 None;
 }

@@ -14,11 +14,16 @@ number OffTrack = 39
 number Mismatch = 40
 
 -- the answer of a call: its refusal, or its value
-abbrev pub answer : {A : Type 0} → Option Refusal → A → Result A Refusal
+abbrev pub answer : {A E : Type 0} → Option E → A → Result A E
 answer None x = Ok x
 answer (Some e) x = Err e
 
+-- the answer of a call that tells no value
+abbrev pub plainly : {A : Type 0} → Result A Refusal → Result Unit Refusal
+plainly (Ok x) = Ok tt
+plainly (Err e) = Err e
+
 -- what a call leaves: all as it was, where it is refused
-abbrev pub after : {M : Type 0} → Option Refusal → M → M → M
+abbrev pub after : {M E : Type 0} → Option E → M → M → M
 after None old new = new
 after (Some e) old new = old

@@ -1,20 +1,19 @@
 -- A train: what it holds, and its record after each move.
-use Rattle.std.specs.Prelude.{ℕ, Bool, true, false, ◌||◌, List, [], ◌∷◌, ◌++◌, Some, None, Option, ◌==◌}
+use Rattle.std.specs.Prelude.{ℕ, Bool, true, false, List, [], ◌++◌, Some, None, Option, ◌==◌}
 use Rattle.std.specs.Option.{option_to_list}
-use Rattle.track.specs.declared.states.Front.{Front}
-use Rattle.track.specs.declared.states.Front.TheVariants.{In, Outside}
+use Rattle.firsts.specs.Lists.{any}
 use Rattle.track.specs.declared.states.Place.{Place}
-use Rattle.track.specs.declared.states.Train.{Train}
-use Rattle.track.specs.declared.states.Train.TheVariants.{Absent, Present}
+
+-- a train's record: none where it is absent
+abbrev pub Train : Type 0
+Train = Option Place
 
 abbrev pub among : List ℕ → ℕ → Bool
-among [] t = false
-among (x ∷ xs) t = x == t || among xs t
+among xs t = any (λ x. x == t) xs
 
--- the segment in which a front is, if any
-abbrev pub front_part : Front → List ℕ
-front_part (In t) = t ∷ []
-front_part Outside = []
+-- the segment in which a front is: none outside
+abbrev pub front_part : Option ℕ → List ℕ
+front_part front = option_to_list front
 
 -- the segments behind the front, the nearest first
 abbrev pub behind : Place → List ℕ
@@ -22,21 +21,21 @@ behind p = option_to_list p.rear
 
 -- the segments that a train holds, its front's first
 abbrev pub held : Train → List ℕ
-held Absent = []
-held (Present p) = front_part p.front ++ behind p
+held None = []
+held (Some p) = front_part p.front ++ behind p
 
 abbrev pub holds : Train → ℕ → Bool
 holds train t = among (held train) t
 
-abbrev pub present : Front → ℕ → Option ℕ → Bool → Train
-present front joint rear derailed = Present (record { front = front; joint = joint; rear = rear; derailed = derailed })
+abbrev pub present : Option ℕ → ℕ → Option ℕ → Bool → Train
+present front joint rear derailed = Some (record { front = front; joint = joint; rear = rear; derailed = derailed })
 
 -- a train come into a segment over a joint, and all of it there
 abbrev pub come_in : ℕ → ℕ → Train
-come_in t j = present (In t) j None false
+come_in t j = present (Some t) j None false
 
 -- one whose front has gone on over a joint out of a segment, which it still holds
-abbrev pub gone_on : Front → ℕ → ℕ → Train
+abbrev pub gone_on : Option ℕ → ℕ → ℕ → Train
 gone_on front j t = present front j (Some t) false
 
 -- one that stands where it was, derailed
@@ -44,6 +43,6 @@ abbrev pub off_track : Place → Train
 off_track p = present p.front p.joint p.rear true
 
 -- one that has given up what lay behind its front: outside, it is gone
-abbrev pub drawn_in : Place → Front → Train
-drawn_in p (In t) = come_in t p.joint
-drawn_in p Outside = Absent
+abbrev pub drawn_in : Place → Option ℕ → Train
+drawn_in p (Some t) = come_in t p.joint
+drawn_in p None = None

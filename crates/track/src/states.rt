@@ -1,7 +1,6 @@
 // The states of points, signals and trains.
-ghost use Rattle.std.specs.Prelude.{◌≡◌};
-ghost use Rattle.std.specs.Option.{option_to_list};
-ghost use Rattle.track.specs.Trains.{among, holds};
+ghost use Rattle.std.specs.Prelude.{◌≡◌, Some};
+ghost use Rattle.track.specs.Trains.{holds};
 
 use crate::refusals::Refusal;
 use station::Position;
@@ -13,63 +12,39 @@ pub struct PointState {
     pub settled: bool,
 }
 
-#[derive(Clone, Copy)]
+#[derive(Clone, Copy, PartialEq)]
 pub enum Aspect {
     Stop,
     Proceed,
 }
 
-// Where a train's front is.
-#[derive(Clone, Copy)]
-pub enum Front {
-    In(usize),
-    Outside,
-}
-
-// A train that is present: its front, the joint by which it came in, the segment behind its front, and whether it is derailed.
+// Where a train that is present stands.
 #[derive(Clone, Copy)]
 pub struct Place {
-    pub front: Front,
+    // the segment in which its front is: none where that is outside
+    pub front: Option<usize>,
+    // the joint by which it came in
     pub joint: usize,
+    // the segment behind its front
     pub rear: Option<usize>,
     pub derailed: bool,
 }
 
-#[derive(Clone, Copy)]
-pub enum Train {
-    Absent,
-    Present(Place),
-}
+// A train's record: none where the train is absent.
+pub type Train = Option<Place>;
 
-// What a call on a train comes to: why it is refused, the signal passed, and the train's new record where that changes.
+// What a call on a train comes to: its answer, with the signal passed, and the train's new record where that changes.
 #[derive(Clone, Copy)]
 pub struct Step {
-    pub refusal: Option<Refusal>,
-    pub passed: Option<usize>,
+    pub answer: Result<Option<usize>, Refusal>,
     pub train: Option<Train>,
 }
 
-// Whether the segment behind a front is this one.
-fn is_behind(rear: Option<usize>, segment: usize) -> bool
-    ensures { result ≡ among (option_to_list rear) segment }
-{
-    match rear {
-        Some(t) => t == segment,
-        None => false,
-    }
-}
-
-impl Train {
-    // Whether the train holds the segment.
+impl Place {
+    // Whether a train that stands so holds the segment.
     pub fn holds(self, segment: usize) -> bool
-        ensures { result ≡ holds self segment }
+        ensures { result ≡ holds (Some self) segment }
     {
-        match self {
-            Train::Absent => false,
-            Train::Present(p) => match p.front {
-                Front::In(t) => t == segment || is_behind(p.rear, segment),
-                Front::Outside => is_behind(p.rear, segment),
-            },
-        }
+        self.front == Some(segment) || self.rear == Some(segment)
     }
 }

@@ -1,10 +1,12 @@
 // Explanations for a person.
 use crate::names::Line;
 use crate::places::place_of;
-use crate::verdict::Verdict;
+use crate::verdict::{Rejection, Verdict};
 use acceptance::Breach;
+use rows::{ReadingFault, RowFault};
 use station::Tables;
 use std::fmt;
+use text::WordFault;
 
 // What the rule that a breach is of wants.
 fn rule_text(breach: Breach) -> &'static str {
@@ -44,17 +46,23 @@ fn rule_text(breach: Breach) -> &'static str {
 }
 
 // What a fault of reading is.
-fn fault_text(number: u8) -> &'static str {
-    match number {
-        1 => "the text has more than 32768 octets",
-        2 => "this word has an octet that is no letter, digit, `_`, `(` or `)`",
-        3 => "this has no form that may stand here, or the text ends too early",
-        4 => "this is one more than the limit allows",
-        5 => "this thing or row is there already",
-        6 => "nothing declares this name",
-        _ => {
+fn fault_text(fault: ReadingFault) -> &'static str {
+    match fault {
+        ReadingFault::Size => "the text has more than 32768 octets",
+        ReadingFault::Row(RowFault::Word(WordFault::Octet(_))) => {
+            "this word has an octet that is no letter, digit, `_`, `(` or `)`"
+        }
+        ReadingFault::Row(RowFault::Word(WordFault::Long(_)) | RowFault::Form(_)) => {
+            "this has no form that may stand here, or the text ends too early"
+        }
+        ReadingFault::Row(RowFault::Limit(_)) => "this is one more than the limit allows",
+        ReadingFault::Row(RowFault::Twice(_)) => "this thing or row is there already",
+        ReadingFault::Undeclared(_) => "nothing declares this name",
+        ReadingFault::Incomplete(_) => {
             "a row is missing: a segment, a route, a route's activation row, a point's N or R row, or the release row of a used subroute"
         }
+        // not asked for: it has no place in the text
+        ReadingFault::Memory => "no memory for the tables",
     }
 }
 
@@ -73,19 +81,21 @@ impl fmt::Display for Explained<'_> {
             verdict: self.verdict,
         };
         match self.verdict {
-            Verdict::Accepted(_, _) => write!(f, "{line}"),
-            Verdict::Refused(breach) => {
+            Ok(_) => write!(f, "{line}"),
+            Err(Rejection::Broken(breach)) => {
                 let wanted = rule_text(breach);
                 write!(f, "{line}: {wanted}")
             }
-            Verdict::Unread(number, at) => {
-                let fault = fault_text(number);
-                let place = place_of(self.text, at);
-                let row = place.lines.saturating_add(1);
-                let column = place.octets.saturating_add(1);
-                write!(f, "line {row}, column {column}: {fault}")
-            }
-            Verdict::NoMemory => write!(f, "{line}"),
+            Err(Rejection::Unread(fault)) => match fault.code() {
+                Some((_, at)) => {
+                    let reason = fault_text(fault);
+                    let place = place_of(self.text, at);
+                    let row = place.lines.saturating_add(1);
+                    let column = place.octets.saturating_add(1);
+                    write!(f, "line {row}, column {column}: {reason}")
+                }
+                None => write!(f, "{line}"),
+            },
         }
     }
 }

@@ -9,4 +9,4 @@ mod verdict;
 pub use explain::Explained;
 pub use names::Line;
 pub use places::{Place, place_of};
-pub use verdict::{Verdict, judge};
+pub use verdict::{Counts, Rejection, Verdict, judge};

@@ -1,7 +1,7 @@
 // The line that the checker prints.
-use crate::verdict::Verdict;
+use crate::verdict::{Counts, Rejection, Verdict};
 use acceptance::Breach;
-use station::Tables;
+use station::{Name, Tables};
 use std::fmt;
 
 // A thing of the tables, by its number.
@@ -23,29 +23,36 @@ struct Shown<'a> {
 
 impl fmt::Display for Shown<'_> {
     fn fmt<W: fmt::Write>(&self, f: &mut fmt::Formatter<W>) -> fmt::Result {
+        let tables = self.tables;
         match self.thing {
-            Thing::Joint(j) => joint(self.tables, j, f),
-            Thing::Signal(x) => signal(self.tables, x, f),
-            Thing::Route(r) => match self.tables.routes.get(r) {
-                Some(route) => {
-                    let name = &route.name;
-                    write!(f, "R_{name}")
-                }
-                None => write!(f, "R#{r}"),
-            },
-            Thing::Subroute(u) => subroute(self.tables, u, f),
-            Thing::Point(p) => match self.tables.points.get(p) {
-                Some(point) => {
-                    let name = &point.name;
-                    write!(f, "P_{name}")
-                }
-                None => write!(f, "P#{p}"),
-            },
-            Thing::Segment(t) => segment(self.tables, t, f),
+            Thing::Joint(j) => joint(tables, j, f),
+            Thing::Signal(x) => signal(tables, x, f),
+            Thing::Route(r) => named("R", tables.routes.get(r).map(|x| &x.name), r, f),
+            Thing::Subroute(u) => subroute(tables, u, f),
+            Thing::Point(p) => named("P", tables.points.get(p).map(|x| &x.name), p, f),
+            Thing::Segment(t) => segment(tables, t, f),
         }
     }
 }
 
+// A name after the letter of its kind, or the number where there is none.
+fn named<W: fmt::Write>(
+    letter: &str,
+    name: Option<&Name>,
+    n: usize,
+    f: &mut fmt::Formatter<W>,
+) -> fmt::Result {
+    match name {
+        Some(name) => write!(f, "{letter}_{name}"),
+        None => write!(f, "{letter}#{n}"),
+    }
+}
+
+fn segment<W: fmt::Write>(tables: &Tables, t: usize, f: &mut fmt::Formatter<W>) -> fmt::Result {
+    named("T", tables.segments.get(t).map(|x| &x.name), t, f)
+}
+
+// A joint's name stands without a letter.
 fn joint<W: fmt::Write>(tables: &Tables, j: usize, f: &mut fmt::Formatter<W>) -> fmt::Result {
     match tables.joints.get(j) {
         Some(joint) => {
@@ -53,16 +60,6 @@ fn joint<W: fmt::Write>(tables: &Tables, j: usize, f: &mut fmt::Formatter<W>) ->
             write!(f, "{name}")
         }
         None => write!(f, "#{j}"),
-    }
-}
-
-fn segment<W: fmt::Write>(tables: &Tables, t: usize, f: &mut fmt::Formatter<W>) -> fmt::Result {
-    match tables.segments.get(t) {
-        Some(segment) => {
-            let name = &segment.name;
-            write!(f, "T_{name}")
-        }
-        None => write!(f, "T#{t}"),
     }
 }
 
@@ -94,43 +91,36 @@ fn subroute<W: fmt::Write>(tables: &Tables, u: usize, f: &mut fmt::Formatter<W>)
     joint(tables, end, f)
 }
 
-// A breach's things, each with a space before it; a way is shown as its subroute in written order.
+// A way, shown as its subroute in written order.
+fn along(w: usize) -> Thing {
+    Thing::Subroute(w.saturating_mul(2))
+}
+
+// A breach's things, each with a space before it.
 fn things<W: fmt::Write>(
     tables: &Tables,
     breach: Breach,
     f: &mut fmt::Formatter<W>,
 ) -> fmt::Result {
-    let (first, second, third) = match breach {
-        Breach::Joint(j) => (Thing::Joint(j), None, None),
-        Breach::Way(w) => (Thing::Subroute(w.saturating_mul(2)), None, None),
-        Breach::Ways(v, w) => (
-            Thing::Subroute(v.saturating_mul(2)),
-            Some(Thing::Subroute(w.saturating_mul(2))),
-            None,
-        ),
-        Breach::Signal(x) => (Thing::Signal(x), None, None),
-        Breach::Path(r) => (Thing::Route(r), None, None),
-        Breach::Signals(r) => (Thing::Route(r), None, None),
-        Breach::Request(r) => (Thing::Route(r), None, None),
-        Breach::Activation(r) => (Thing::Route(r), None, None),
-        Breach::Release(u) => (Thing::Subroute(u), None, None),
-        Breach::Row(p, u) => (Thing::Point(p), Some(Thing::Subroute(u)), None),
-        Breach::Conflict(r, o, t) => (
-            Thing::Route(r),
+    let named = match breach {
+        Breach::Joint(j) => [Some(Thing::Joint(j)), None, None],
+        Breach::Way(w) => [Some(along(w)), None, None],
+        Breach::Ways(v, w) => [Some(along(v)), Some(along(w)), None],
+        Breach::Signal(x) => [Some(Thing::Signal(x)), None, None],
+        Breach::Path(r) | Breach::Signals(r) | Breach::Request(r) | Breach::Activation(r) => {
+            [Some(Thing::Route(r)), None, None]
+        }
+        Breach::Release(u) => [Some(Thing::Subroute(u)), None, None],
+        Breach::Row(p, u) => [Some(Thing::Point(p)), Some(Thing::Subroute(u)), None],
+        Breach::Conflict(r, o, t) => [
+            Some(Thing::Route(r)),
             Some(Thing::Route(o)),
             Some(Thing::Segment(t)),
-        ),
+        ],
     };
-    let first = Shown {
-        tables,
-        thing: first,
-    };
-    write!(f, " {first}")?;
-    for thing in [second, third] {
-        if let Some(thing) = thing {
-            let shown = Shown { tables, thing };
-            write!(f, " {shown}")?;
-        }
+    for thing in named.into_iter().flatten() {
+        let shown = Shown { tables, thing };
+        write!(f, " {shown}")?;
     }
     Ok(())
 }
@@ -145,16 +135,18 @@ pub struct Line<'a> {
 impl fmt::Display for Line<'_> {
     fn fmt<W: fmt::Write>(&self, f: &mut fmt::Formatter<W>) -> fmt::Result {
         match self.verdict {
-            Verdict::Accepted(segments, routes) => {
+            Ok(Counts { segments, routes }) => {
                 write!(f, "ACCEPTED segments {segments} routes {routes}")
             }
-            Verdict::Refused(breach) => {
+            Err(Rejection::Broken(breach)) => {
                 let number = breach.number();
                 write!(f, "REFUSED {number}")?;
                 things(self.tables, breach, f)
             }
-            Verdict::Unread(number, at) => write!(f, "UNREAD {number} {at}"),
-            Verdict::NoMemory => write!(f, "no memory for the tables"),
+            Err(Rejection::Unread(fault)) => match fault.code() {
+                Some((number, at)) => write!(f, "UNREAD {number} {at}"),
+                None => write!(f, "no memory for the tables"),
+            },
         }
     }
 }

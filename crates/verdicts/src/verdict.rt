@@ -1,9 +1,9 @@
 // Reading and check as one answer.
-ghost use Rattle.std.specs.Prelude.{◌≡◌};
+ghost use Rattle.std.specs.Prelude.{◌≡◌, length, MatchResult};
 ghost use Rattle.station.specs.Station.{station};
-ghost use Rattle.rows.specs.Faults.{code};
 ghost use Rattle.reading.specs.Reading.{reading};
-ghost use Rattle.verdicts.specs.Verdicts.{unread_by, checked, verdict, Judges, Holds, WhenRead};
+ghost use Rattle.verdicts.specs.Verdicts.{accepted, broken, checked, verdict, Judges, Holds, WhenRead};
+ghost use Rattle.verdicts.specs.declared.verdict.Rejection.TheVariants.{Unread, Broken};
 ghost use Rattle.writing.specs.Written.{Written};
 
 use acceptance::{Breach, Draft};
@@ -12,35 +12,58 @@ use station::Tables;
 use std::alloc::Global;
 use writing::read;
 
-#[derive(Clone, Copy)]
-pub enum Verdict {
-    // how many segments and routes
-    Accepted(usize, usize),
-    // the first rule that is broken, and by what
-    Refused(Breach),
-    // the refusal's number and offset
-    Unread(u8, usize),
-    // there was no memory for the tables
-    NoMemory,
+// What an accepted station has.
+#[derive(Clone, Copy, PartialEq)]
+pub struct Counts {
+    pub segments: usize,
+    pub routes: usize,
 }
 
-fn unread(fault: ReadingFault) -> Verdict
-    ensures { result ≡ unread_by (code fault) }
-{
-    match fault.code() {
-        Some((number, at)) => Verdict::Unread(number, at),
-        None => Verdict::NoMemory,
+// Why a text is not accepted.
+#[derive(Clone, Copy)]
+pub enum Rejection {
+    // it is no station text, or there was no memory for its tables
+    Unread(ReadingFault),
+    // the first rule that is broken, and by what
+    Broken(Breach),
+}
+
+impl From<ReadingFault> for Rejection {
+    ghost from_gives = { λ e r. r ≡ Unread e };
+
+    fn from(e: ReadingFault) -> Rejection {
+        Rejection::Unread(e)
     }
 }
 
-fn checked(tables: &Tables, board: &mut [u8; 64]) -> Verdict
-    ensures value { result ≡ checked (station tables.now) }
+impl From<Breach> for Rejection {
+    ghost from_gives = { λ b r. r ≡ Broken b };
+
+    fn from(b: Breach) -> Rejection {
+        Rejection::Broken(b)
+    }
+}
+
+pub type Verdict = Result<Counts, Rejection>;
+
+fn counted(tables: &Tables) -> Counts
+    ensures segments { result.segments ≡ length (station tables.now).segments }
+    ensures routes { result.routes ≡ length (station tables.now).routes }
+{
+    Counts {
+        segments: tables.segments.len(),
+        routes: tables.routes.len(),
+    }
+}
+
+fn check(tables: &Tables, board: &mut [u8; 64]) -> Result<Counts, Breach>
+    ensures value { MatchResult result (λ n. accepted n.segments n.routes ≡ checked (station tables.now)) (λ b. broken b ≡ checked (station tables.now)) }
     ensures same { board.new ≡ board.old }
 {
-    match Draft::new(tables).check(board) {
-        Ok(_) => Verdict::Accepted(tables.segments.len(), tables.routes.len()),
-        Err((_, breach)) => Verdict::Refused(breach),
-    }
+    Draft::new(tables)
+        .check(board)
+        .map(|_| counted(tables))
+        .map_err(|(_, breach)| breach)
 }
 
 // What the text comes to; the tables then hold what was read, and the board what it held before.
@@ -50,8 +73,6 @@ pub fn judge(text: &[u8], heap: Global, tables: &mut Tables, board: &mut [u8; 64
     ensures written { WhenRead result (Written text.now (station tables.new)) }
     ensures same { board.new ≡ board.old }
 {
-    match read(text, heap, tables) {
-        Ok(()) => checked(tables, board),
-        Err(fault) => unread(fault),
-    }
+    read(text, heap, tables)?;
+    Ok(check(tables, board)?)
 }

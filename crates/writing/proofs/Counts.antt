@@ -1,43 +1,21 @@
--- A text has no more tokens than octets, and its tokens end at its length.
+-- A text's tokens end at its length, and marks take as many tokens.
 use Rattle.std.proofs.Common.{◌≡◌, ℕ, zero, suc, ◌+◌, ◌-◌, ◌≤◌, List, [], ◌∷◌, length, Some, None, Ok, Err, Option, Result, sym, refl, ap, subst, arith}
 use Rattle.text.specs.declared.faults.WordFault.{WordFault}
 use Rattle.text.specs.Tokens.{Item, next_token, next_place}
 use Rattle.text.specs.Ahead.{Ahead, ends, spoilt, token, follow, tokens_within, tokens_from}
 use Rattle.forms.specs.Things.{Spot}
 use Rattle.rows.specs.Rows.{Row}
+use Rattle.sheets.proofs.Shorter.{size}
 use Rattle.writing.specs.Texts.{Sound}
 use Rattle.writing.specs.Marks.{Mark, Spelt}
 use Rattle.writing.specs.Spelling.{spelling, spellings}
 use Rattle.std.proofs.lemmas.List.{length-append}
-
--- how many tokens are ahead
-abbrev pub size : Ahead → ℕ
-size (ends n) = 0
-size (spoilt n i) = 0
-size (token t ts) = suc (size ts)
 
 -- where the tokens end, if no fault spoils them
 abbrev pub Finishes : ℕ → Ahead → Type 0
 Finishes n (ends m) = m ≡ n
 Finishes n (spoilt m i) = Unit {0}
 Finishes n (token t ts) = Finishes n ts
-
--- one token more takes one turn more
-follow_size : (o : Result (Option Item) WordFault) (n k : ℕ) (ts : Ahead) → size ts ≤ k → size (follow o n ts) ≤ suc k
-follow_size (Ok None) n k ts h = omega arith
-follow_size (Ok (Some i)) n k ts h = omega arith
-follow_size (Err e) n k ts h = omega arith
-
--- there are no more tokens than turns
-within_size : (k : ℕ) (t : List ℕ) (at : ℕ) → size (tokens_within k t at) ≤ k
-unfolding tokens_within
-within_size zero t at = omega arith
-within_size (suc k) t at = follow_size (next_token t at) (length t) k (tokens_within k t (next_place t at)) (within_size k t (next_place t at))
-
--- nor more than octets
-pub tokens_size : (t : List ℕ) → size (tokens_from t 0) ≤ length t
-unfolding tokens_from
-tokens_size t = let h = within_size (length t - 0) t 0 in omega arith
 
 -- tokens that follow a token end where they would without it
 follow_finishes : (o : Result (Option Item) WordFault) (n : ℕ) (ts : Ahead) → Finishes n ts → Finishes n (follow o n ts)

@@ -1,5 +1,5 @@
 -- Rows of the data are read exactly as they are written.
-use Rattle.std.proofs.Common.{◌≡◌, ℕ, false, cond, List, [], ◌∷◌, ◌++◌, codes, sym, refl, ap, ◌∙◌, subst}
+use Rattle.std.proofs.Common.{◌≡◌, ℕ, true, false, cond, List, [], ◌∷◌, ◌++◌, codes, sym, refl, ap, ◌∙◌, subst}
 use Rattle.text.specs.Tokens.{word}
 use Rattle.text.specs.Ahead.{Ahead, token}
 use Rattle.text.specs.Out.{Out, got, bad, bind}
@@ -15,7 +15,7 @@ use Rattle.rows.specs.Filters.{move_kind, full, known}
 use Rattle.rows.specs.Rows.{Pair, Row, request_row, activation_row, move_row, release_row, zone_row}
 use Rattle.steps.specs.Words.{a_keyword}
 use Rattle.steps.specs.Pairs.{a_list}
-use Rattle.sheets.specs.declared.sections.Part.TheVariants.{Data}
+use Rattle.sheets.specs.Sections.{Data}
 use Rattle.sheets.specs.Layout.{Sofar}
 use Rattle.sheets.specs.Data.{a_request_row, an_activation_row, a_move_row, a_release_row, a_zone_row}
 use Rattle.writing.specs.Marks.{Spelt, says}
@@ -87,7 +87,7 @@ module _ (rows : Sofar) (at : ℕ) (ts : Ahead) where
       let t : Spelt (pairs d.0 ++ says (codes "then") ∷ pairs g.0) c.1 g.1 =
       spelt_join (pairs d.0) (says (codes "then") ∷ pairs g.0) c.1 d.1 g.1 l.0 (q.0, f.1, q.1, m.0) in
       finish rows Data (word at (head_word (heads.a_request x))) ts r us (request_row x d.0 g.0) g.1 g.3
-      (refl, (at, ap (λ k. word k (head_word (heads.a_request x))) (sym h.0)), (p.0, c.1, p.1, t), (h.1, l.1, m.1), (a.0, b.0))
+      (refl {a = true}, (at, ap (λ k. word k (head_word (heads.a_request x))) (sym h.0)), (p.0, c.1, p.1, t), (h.1, l.1, m.1), (a.0, b.0))
 
   -- a request row that is written is read
   pub request_row_is : (x : Spot) (ps qs : List (Pair Spot)) (us : Ahead) → Closed us → Spelt (body (request_row x ps qs)) ts us → Formed (request_row x ps qs) → Fresh rows (request_row x ps qs) → a_request_row rows x ts ≡ got (request_row x ps qs) us
@@ -110,7 +110,7 @@ module _ (rows : Sofar) (at : ℕ) (ts : Ahead) where
   activation_row_sound x r us h e =
       let p = pairs_sound rows kind.Activation x.1 [] x.0 ActivationTests (activation_row x) ts r us e in
       finish rows Data (word at (head_word (heads.an_activation x))) ts r us (activation_row x p.0) p.1 p.5
-      (refl, (at, ap (λ k. word k (head_word (heads.an_activation x))) (sym h.0)), p.3, (h.1, p.4), p.2)
+      (refl {a = true}, (at, ap (λ k. word k (head_word (heads.an_activation x))) (sym h.0)), p.3, (h.1, p.4), p.2)
 
   -- an activation row that is written is read
   pub activation_row_is : (x : Spot) (ps : List (Pair Spot)) (us : Ahead) → Closed us → Spelt (body (activation_row x ps)) ts us → Formed (activation_row x ps) → Fresh rows (activation_row x ps) → an_activation_row rows x ts ≡ got (activation_row x ps) us
@@ -121,7 +121,7 @@ module _ (rows : Sofar) (at : ℕ) (ts : Ahead) where
   move_row_sound x o r us h e =
       let p = pairs_sound rows (move_kind o) x.1 [] x.0 PointTests (move_row x o) ts r us e in
       finish rows Data (word at (head_word (heads.a_point_row x o))) ts r us (move_row x o p.0) p.1 p.5
-      (refl, (at, ap (λ k. word k (head_word (heads.a_point_row x o))) (sym h.0)), p.3, (h.1, p.4), p.2)
+      (refl {a = true}, (at, ap (λ k. word k (head_word (heads.a_point_row x o))) (sym h.0)), p.3, (h.1, p.4), p.2)
 
   -- a point's row that is written is read
   pub move_row_is : (x : Spot) (o : Position) (ps : List (Pair Spot)) (us : Ahead) → Closed us → Spelt (body (move_row x o ps)) ts us → Formed (move_row x o ps) → Fresh rows (move_row x o ps) → a_move_row rows x o ts ≡ got (move_row x o ps) us
@@ -132,7 +132,7 @@ module _ (rows : Sofar) (at : ℕ) (ts : Ahead) where
   release_row_sound x y r us h e =
       let p = pairs_sound rows kind.Release x.1 y.1 x.0 ReleaseTests (release_row x y) ts r us e in
       finish rows Data (word at (head_word (heads.a_release x y))) ts r us (release_row x y p.0) p.1 p.5
-      (refl, (at, ap (λ k. word k (head_word (heads.a_release x y))) (sym h.0)), p.3, (h.1 ∙ sym h.0, h.2, h.3, p.4), p.2)
+      (refl {a = true}, (at, ap (λ k. word k (head_word (heads.a_release x y))) (sym h.0)), p.3, (h.1 ∙ sym h.0, h.2, h.3, p.4), p.2)
 
   -- a release row that is written is read
   pub release_row_is : (x y : Spot) (ps : List (Pair Spot)) (us : Ahead) → Closed us → Spelt (body (release_row x y ps)) ts us → Formed (release_row x y ps) → Fresh rows (release_row x y ps) → a_release_row rows x y ts ≡ got (release_row x y ps) us
@@ -148,7 +148,7 @@ module _ (rows : Sofar) (at : ℕ) (ts : Ahead) where
       let a = cond_got (full rows kind.Zone 32) 4 x.0 (zone_0 x) r us e in
       let p = pairs_sound rows kind.Zone x.1 [] x.0 ReleaseTests (zone_row x) ts r us a.1 in
       finish rows Data (word at (head_word (heads.a_zone x))) ts r us (zone_row x p.0) p.1 p.5
-      (refl, (at, ap (λ k. word k (head_word (heads.a_zone x))) (sym h.0)), p.3, (h.1, p.4), (a.0, p.2))
+      (refl {a = true}, (at, ap (λ k. word k (head_word (heads.a_zone x))) (sym h.0)), p.3, (h.1, p.4), (a.0, p.2))
 
   -- a zone's row that is written is read
   pub zone_row_is : (x : Spot) (ps : List (Pair Spot)) (us : Ahead) → Closed us → Spelt (body (zone_row x ps)) ts us → Formed (zone_row x ps) → Fresh rows (zone_row x ps) → a_zone_row rows x ts ≡ got (zone_row x ps) us

@@ -5,7 +5,7 @@ use Rattle.text.specs.Ahead.{Ahead}
 use Rattle.text.specs.Out.{got}
 use Rattle.forms.specs.Things.{Spot}
 use Rattle.rows.specs.Rows.{Row}
-use Rattle.sheets.specs.declared.sections.Part.{Part}
+use Rattle.sheets.specs.Sections.{Part}
 use Rattle.sheets.specs.Layout.{Sofar}
 use Rattle.writing.specs.Marks.{Mark, token_of, Spelt}
 use Rattle.writing.specs.Spelling.{body, head_mark}

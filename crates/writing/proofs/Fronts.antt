@@ -7,10 +7,10 @@ use Rattle.std.proofs.lemmas.Bool.{cond-true, cond-false, le-ltb, ltb-false, eqb
 use Rattle.text.specs.declared.faults.WordFault.{WordFault}
 use Rattle.text.specs.declared.faults.WordFault.TheVariants.{Octet, Long}
 use Rattle.text.specs.Octets.{blank, allowed, inner}
-use Rattle.text.specs.Tokens.{Item, star, comma, word, as_item}
+use Rattle.text.specs.Tokens.{Item, star, comma, word, checked, as_item}
 use Rattle.writing.specs.Texts.{only, Stops, octets_of, offset_of, Whole}
 use Rattle.writing.proofs.Joints.{only_implies}
-use Rattle.writing.proofs.Runs.{leading_run, leading_none, only_take, stops_after, not_octet, not_blank, allowed_inner}
+use Rattle.writing.proofs.Runs.{leading_run, leading_none, stops_after, not_octet, not_blank, allowed_inner}
 use Rattle.writing.proofs.Tokens.{word_on, token_on, width}
 
 -- the token stands at the front
@@ -29,11 +29,14 @@ none_on i (c ∷ cs) e = absurd (by (eqb c 42) (eqb c 44) (word_on i (c ∷ cs))
     by false false (Err g) f = let z : ◌≡◌ {A = ℕ} 0 1 = cc in omega arith
 
 -- a word that is found is short enough and has only octets that it may have
-word_by : (i : ℕ) (v w : List ℕ) (b d : Bool) → ltb (prefix_len allowed v) (prefix_len inner v) ≡ b → ltb 16 (prefix_len inner v) ≡ d → cond b (Err (Octet i)) (cond d (Err (Long i)) (Ok (take (prefix_len inner v) v))) ≡ Ok w
-    → (prefix_len inner v ≤ prefix_len allowed v) × (prefix_len inner v ≤ 16) × (take (prefix_len inner v) v ≡ w)
-word_by i v w true d s t e = let z : ◌≡◌ {A = ℕ} 0 1 = cc in absurd (omega arith)
-word_by i v w false true s t e = let z : ◌≡◌ {A = ℕ} 0 1 = cc in absurd (omega arith)
-word_by i v w false false s t e = let f : take (prefix_len inner v) v ≡ w = cc in (ltb-false _ _ s, ltb-false _ _ t, f)
+word_by : (i : ℕ) (v w : List ℕ) (b d : Bool) → only allowed v ≡ b → ltb 16 (length v) ≡ d → cond b (cond d (Err (Long i)) (Ok v)) (Err (Octet i)) ≡ Ok w → (only allowed w ≡ true) × (length w ≤ 16) × (v ≡ w)
+word_by i v w false d s t e = let z : ◌≡◌ {A = ℕ} 0 1 = cc in absurd (omega arith)
+word_by i v w true true s t e = let z : ◌≡◌ {A = ℕ} 0 1 = cc in absurd (omega arith)
+word_by i v w true false s t e =
+    let f : v ≡ w = cc in
+    let n = ltb-false _ _ t in
+    let m = ap length f in
+    (ap (only allowed) (sym f) ∙ s, omega arith, f)
 
 module _ (i c : ℕ) (cs : List ℕ) (nb : blank c ≡ false) where
   -- a word at the front
@@ -41,15 +44,14 @@ module _ (i c : ℕ) (cs : List ℕ) (nb : blank c ≡ false) where
   word_found s t w e =
       let v : List ℕ = c ∷ cs in
       let n : ℕ = prefix_len inner v in
-      let q = word_by i v w _ _ refl refl e in
+      let q = word_by i (take n v) w _ _ refl refl e in
       let one : inner c ≡ true = not_from_false (blank c || (eqb c 42 || eqb c 44)) (or_from (blank c) (eqb c 42 || eqb c 44) nb (or_from (eqb c 42) (eqb c 44) s t)) in
       let some : prefix_len inner (c ∷ cs) ≡ 1 + prefix_len inner cs = cond-true (inner c) (1 + prefix_len inner cs) 0 one in
       let long : length (take (prefix_len inner (c ∷ cs)) (c ∷ cs)) ≡ prefix_len inner (c ∷ cs) = length-take-le n v (prefix_len-le-length inner v) in
       let same : length (take (prefix_len inner (c ∷ cs)) (c ∷ cs)) ≡ length w = ap length q.2 in
       let few = q.1 in
-      let all : only allowed w ≡ true = subst (λ y. only allowed y ≡ true) q.2 (only_take allowed n v q.0) in
       let wide : width v ≡ n = cond-false (eqb c 42) 1 (cond (eqb c 44) 1 n) s ∙ cond-false (eqb c 44) 1 n t in
-      (drop n v, sym (take-append-drop n v) ∙ ap (λ y. y ++ drop n v) q.2, refl, (omega arith, omega arith, all, stops_after inner v), wide ∙ sym long ∙ same)
+      (drop n v, sym (take-append-drop n v) ∙ ap (λ y. y ++ drop n v) q.2, refl, (omega arith, omega arith, q.0, stops_after inner v), wide ∙ sym long ∙ same)
 
   -- what is neither star nor comma is a word
   item_found : eqb c 42 ≡ false → eqb c 44 ≡ false → (x : Item) (r : Result (List ℕ) WordFault) → word_on i (c ∷ cs) ≡ r → as_item i r ≡ Ok (Some x) → Found i (c ∷ cs) x
@@ -87,14 +89,10 @@ word_seen i c cs behind h =
     let run : prefix_len inner (c ∷ (cs ++ behind)) ≡ length (c ∷ cs) + prefix_len inner behind = leading_run inner w behind (only_implies allowed inner allowed_inner w h.2) in
     let none : prefix_len inner behind ≡ 0 = leading_none inner behind h.3 in
     let n : prefix_len inner (c ∷ (cs ++ behind)) ≡ length (c ∷ cs) = omega arith in
-    let more : prefix_len allowed (c ∷ (cs ++ behind)) ≡ length (c ∷ cs) + prefix_len allowed behind = leading_run allowed w behind h.2 in
-    let few = h.1 in
-    let le : prefix_len inner (c ∷ (cs ++ behind)) ≤ prefix_len allowed (c ∷ (cs ++ behind)) = omega arith in
-    let short : prefix_len inner (c ∷ (cs ++ behind)) ≤ 16 = omega arith in
     let is : word_on i v ≡ Ok w =
-    cond-false (ltb (prefix_len allowed v) (prefix_len inner v)) (Err (Octet i)) (cond (ltb 16 (prefix_len inner v)) (Err (Long i)) (Ok (take (prefix_len inner v) v))) (le-ltb _ _ le)
-    ∙ cond-false (ltb 16 (prefix_len inner v)) (Err (Long i)) (Ok (take (prefix_len inner v) v)) (le-ltb _ _ short)
-    ∙ ap Ok (take_at w behind (prefix_len inner v) (sym n)) in (
+    ap (checked i) (take_at w behind (prefix_len inner v) (sym n))
+    ∙ cond-true (only allowed w) (cond (ltb 16 (length w)) (Err (Long i)) (Ok w)) (Err (Octet i)) h.2
+    ∙ cond-false (ltb 16 (length w)) (Err (Long i)) (Ok w) (le-ltb _ _ h.1) in (
       cond-false (eqb c 42) (Ok (Some (star i))) (cond (eqb c 44) (Ok (Some (comma i))) (as_item i (word_on i v))) s
           ∙ cond-false (eqb c 44) (Ok (Some (comma i))) (as_item i (word_on i v)) t
           ∙ ap (as_item i) is,

@@ -1,13 +1,13 @@
 -- A word is read as the head of a row exactly when it is the word that writes the head.
 use Rattle.std.proofs.Common.{◌≡◌, ℕ, Bool, true, false, cond, List, [], ◌∷◌, ◌++◌, Some, None, codes, Option, sym, refl, ap, ◌∙◌, subst, arith}
-use Rattle.std.specs.Option.{option_map}
+use Rattle.std.specs.Option.{option_map, option_or}
 use Rattle.std.specs.Str.{bytes_eq}
 use Rattle.std.proofs.lemmas.Slice.Eq.{bytes_eq-Decides}
 use Rattle.std.proofs.lemmas.List.{same_from_push}
 use Rattle.station.specs.declared.tests.Position.{Position}
 use Rattle.station.specs.declared.tests.Position.TheVariants.{Normal, Reverse}
 use Rattle.forms.specs.Words.{bracketed, joined}
-use Rattle.forms.specs.Things.{Spot, try}
+use Rattle.forms.specs.Things.{Spot, try, name_at, names_at}
 use Rattle.forms.specs.Heads.{Head, a_segment, a_joint, a_point, a_way, a_signal, the_data, a_request, an_activation, a_point_row, a_release, a_zone, layout_head, head}
 use Rattle.writing.specs.Words.{head_word, Heads}
 use Rattle.writing.proofs.Words.{bracketed_sound, bracketed_is}
@@ -29,13 +29,12 @@ side_miss x = by _ refl
 -- the head that a word at offset i is, by what each form finds in it
 abbrev head_by : ℕ → Option Head → Option (List ℕ) → Option (List ℕ) → Option (List ℕ) → Option (List ℕ × List ℕ) → Option (List ℕ) → Option (List ℕ) → Option Head
 head_by i l q a z u n r =
-    try l (λ h. h)
-    (try q (λ x. a_request (i, x))
-    (try a (λ x. an_activation (i, x))
-    (try z (λ x. a_zone (i, x))
-    (try u (λ p. a_release (i, p.0) (i, p.1))
-    (try n (λ x. a_point_row (i, x) Normal)
-    (option_map (λ x. a_point_row (i, x) Reverse) r))))))
+    option_or l
+    (
+    option_or
+    (option_or (try (name_at (i, []) q) a_request (option_map (λ x. an_activation x) (name_at (i, []) a))) (try (name_at (i, []) z) a_zone (option_map (λ p. a_release p.0 p.1) (names_at (i, []) u))))
+    (try (name_at (i, []) n) (λ x. a_point_row x Normal) (option_map (λ x. a_point_row x Reverse) (name_at (i, []) r)))
+    )
 
 -- the word writes the head
 abbrev Begins : Spot → Head → Type 0

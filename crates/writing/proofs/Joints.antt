@@ -1,9 +1,9 @@
 -- Two joints are found in a word exactly where it is the front, the one, `_` and the other.
-use Rattle.std.proofs.Common.{◌≡◌, ℕ, suc, ◌+◌, ◌<◌, Bool, true, false, cond, not, ◌&&◌, eqb, ltb, leb, List, [], ◌∷◌, ◌++◌, length, take, drop, Some, None, codes, Option, sym, refl, ap, ◌∙◌, inl, inr, one-add, arith, length-append}
+use Rattle.std.proofs.Common.{◌≡◌, ℕ, ◌+◌, Bool, true, false, cond, not, ◌&&◌, ltb, leb, List, [], ◌∷◌, ◌++◌, length, take, drop, Some, None, codes, Option, sym, refl, ap, ◌∙◌, inl, inr, one-add, arith}
 use Rattle.std.specs.List.{prefix_len}
 use Rattle.std.specs.Str.{bytes_eq}
 use Rattle.std.proofs.lemmas.List.{take-append-drop, take_at, drop_at}
-use Rattle.std.proofs.lemmas.Bool.{cond-true, cond-false, lt-leb, eqb-true, and_parts, and_from, or_cases, or_left, or_right}
+use Rattle.std.proofs.lemmas.Bool.{cond-true, and_parts, and_from, or_cases, or_left, or_right}
 use Rattle.text.specs.Octets.{letter, digit, plain, naming}
 use Rattle.forms.specs.Words.{is_joint, after, if_joints, two_joints, then_joints, joined}
 use Rattle.writing.specs.Texts.{only}
@@ -19,24 +19,15 @@ pub only_implies : (p q : ℕ → Bool) → ((x : ℕ) → p x ≡ true → q x 
 only_implies p q h [] e = refl
 only_implies p q h (x ∷ xs) e = let r = and_parts _ _ e in and_from _ _ (h x r.0) (only_implies p q h xs r.1)
 
--- a run as long as the list is all of it
-leading_only : (p : ℕ → Bool) (xs : List ℕ) → prefix_len p xs ≡ length xs → only p xs ≡ true
-leading_only p [] e = refl
-leading_only p (x ∷ xs) e = by _ refl e (leading_only p xs)
-  where
-    by : (b : Bool) → p x ≡ b → cond b (1 + prefix_len p xs) 0 ≡ suc (length xs) → (prefix_len p xs ≡ length xs → only p xs ≡ true) → only p (x ∷ xs) ≡ true
-    by false s f ih = absurd (omega arith)
-    by true s f ih = let g : prefix_len p xs ≡ length xs = omega arith in and_from _ _ s (ih g)
-
 -- a joint's octets are letters and digits
 pub joint_plain : (w : List ℕ) → is_joint w ≡ true → only plain w ≡ true
 joint_plain w e =
     let d : Bool = not (bytes_eq w (codes "OUT")) && not (bytes_eq w (codes "END")) in
-    let c : Bool = eqb (prefix_len plain w) (length w) in
+    let c : Bool = only plain w in
     let b : Bool = leb (length w) 6 in
     let f = and_parts (ltb 0 (length w)) (b && (c && d)) e in
     let g = and_parts b (c && d) f.1 in
-    leading_only plain w (eqb-true _ _ (and_parts c d g.1).0)
+    (and_parts c d g.1).0
 
 -- letters and digits may stand in any name
 plain_naming : (x : ℕ) → plain x ≡ true → naming x ≡ true
@@ -70,25 +61,19 @@ if_joints_is a b o e s t = ap (if_joints a) e ∙ cond-true _ _ _ s ∙ cond-tru
 
 -- two joints are found with `_` between them
 two_sound : (x p q : List ℕ) → two_joints x ≡ Some (p, q) → (x ≡ p ++ 95 ∷ q) × (is_joint p ≡ true) × (is_joint q ≡ true)
-two_sound x p q e = by _ e
-  where
-    by : (b : Bool) → cond b None (if_joints (take (prefix_len plain x) x) (after (codes "_") (drop (prefix_len plain x) x))) ≡ Some (p, q) → (x ≡ p ++ 95 ∷ q) × (is_joint p ≡ true) × (is_joint q ≡ true)
-    by true f = let z : ◌≡◌ {A = ℕ} 0 1 = cc in absurd (omega arith)
-    by false f =
-        let n : ℕ = prefix_len plain x in
-        let r = if_joints_some (take n x) (after (codes "_") (drop n x)) p q f in
-        let g : drop n x ≡ 95 ∷ q = after_sound (codes "_") (drop n x) q r.0 in
-        (sym (take-append-drop n x) ∙ ap (λ y. y ++ drop n x) r.1 ∙ ap (λ y. p ++ y) g, r.2, r.3)
+two_sound x p q e =
+    let n : ℕ = prefix_len plain x in
+    let r = if_joints_some (take n x) (after (codes "_") (drop n x)) p q e in
+    let g : drop n x ≡ 95 ∷ q = after_sound (codes "_") (drop n x) q r.0 in
+    (sym (take-append-drop n x) ∙ ap (λ y. y ++ drop n x) r.1 ∙ ap (λ y. p ++ y) g, r.2, r.3)
 
 -- and are found where they stand so
 two_is : (a b : List ℕ) → is_joint a ≡ true → is_joint b ≡ true → two_joints (a ++ 95 ∷ b) ≡ Some (a, b)
 two_is a b s t =
     let e : prefix_len plain (a ++ 95 ∷ b) ≡ length a = run_ends a b (joint_plain a s) in
-    let l : prefix_len plain (a ++ 95 ∷ b) < length (a ++ 95 ∷ b) = simp length-append (omega arith) in
     let f : after (codes "_") (drop (prefix_len plain (a ++ 95 ∷ b)) (a ++ 95 ∷ b)) ≡ Some b =
     ap (after (codes "_")) (drop_at a (95 ∷ b) _ (sym e)) ∙ after_is (codes "_") b in
-    cond-false _ _ _ (lt-leb _ _ l)
-    ∙ ap (λ y. if_joints y (after (codes "_") (drop (prefix_len plain (a ++ 95 ∷ b)) (a ++ 95 ∷ b)))) (take_at a (95 ∷ b) _ (sym e))
+    ap (λ y. if_joints y (after (codes "_") (drop (prefix_len plain (a ++ 95 ∷ b)) (a ++ 95 ∷ b)))) (take_at a (95 ∷ b) _ (sym e))
     ∙ if_joints_is a b _ f s t
 
 -- joints are found only behind a front

@@ -1,5 +1,5 @@
 -- Rows of the layout are read exactly as they are written.
-use Rattle.std.proofs.Common.{◌≡◌, ℕ, cond, List, [], refl, ap, ◌∙◌}
+use Rattle.std.proofs.Common.{◌≡◌, ℕ, true, cond, List, [], refl, ap, ◌∙◌}
 use Rattle.text.specs.Tokens.{word}
 use Rattle.text.specs.Ahead.{Ahead}
 use Rattle.text.specs.Out.{Out, got, bad, bind}
@@ -12,7 +12,7 @@ use Rattle.rows.specs.Filters.{full, known, crowded}
 use Rattle.rows.specs.Rows.{Pair, Far, Row, segment_row, joint_row, point_row, way_row, signal_row}
 use Rattle.steps.specs.Words.{a_segment, a_joint, a_point, a_far}
 use Rattle.steps.specs.Pairs.{a_list}
-use Rattle.sheets.specs.declared.sections.Part.TheVariants.{Layout}
+use Rattle.sheets.specs.Sections.{Layout}
 use Rattle.sheets.specs.Layout.{Sofar, a_segment_row, a_joint_row, a_point_row, a_way_row, a_signal_row}
 use Rattle.writing.specs.Marks.{Spelt}
 use Rattle.writing.specs.Spelling.{body}
@@ -37,7 +37,7 @@ module _ (rows : Sofar) (at : ℕ) (ts : Ahead) where
       let c = cond_got (known rows kind.Segment b.0.1 []) 5 b.0.0 (got (segment_row b.0) b.1) r us b.3 in
       let s = segment_sound ts b.0 b.1 b.2 in
       finish rows Layout (word at (head_word heads.a_segment)) ts r us (segment_row b.0) b.1 c.1
-      (refl, (at, refl), (0, b.1, s.0, refl), s.1, (a.0, c.0))
+      (refl {a = true}, (at, refl), (0, b.1, s.0, refl), s.1, (a.0, c.0))
 
   -- a segment row that is written is read
   pub segment_row_is : (x : Spot) (us : Ahead) → Spelt (body (segment_row x)) ts us → Formed (segment_row x) → Fresh rows (segment_row x) → a_segment_row rows at ts ≡ got (segment_row x) us
@@ -69,7 +69,7 @@ module _ (rows : Sofar) (at : ℕ) (ts : Ahead) where
       let q = segment_sound b.1 d.0 d.1 d.2 in
       let f = far_sound d.1 g.0 g.1 g.2 in
       finish rows Layout (word at (head_word heads.a_joint)) ts r us (joint_row x d.0 g.0) g.1 g.3
-      (refl, (at, refl), (0, b.1, p.0, (0, d.1, q.0, (f.0, g.1, f.1, refl))), (p.1, q.1, f.2), (a.0, c.0))
+      (refl {a = true}, (at, refl), (0, b.1, p.0, (0, d.1, q.0, (f.0, g.1, f.1, refl {a = g.1}))), (p.1, q.1, f.2), (a.0, c.0))
 
   -- a joint row that is written is read
   pub joint_row_is : (x y : Spot) (f : Far Spot) (us : Ahead) → Spelt (body (joint_row x y f)) ts us → Formed (joint_row x y f) → Fresh rows (joint_row x y f) → a_joint_row rows at ts ≡ got (joint_row x y f) us
@@ -103,7 +103,7 @@ module _ (rows : Sofar) (at : ℕ) (ts : Ahead) where
       let p = point_sound ts x b.1 b.2 in
       let q = segment_sound b.1 d.0 d.1 d.2 in
       finish rows Layout (word at (head_word heads.a_point)) ts r us (point_row x d.0) d.1 g.1
-      (refl, (at, refl), (0, b.1, p.0, (0, d.1, q.0, refl)), (p.1, q.1), (a.0, c.0, g.0))
+      (refl {a = true}, (at, refl), (0, b.1, p.0, (0, d.1, q.0, refl)), (p.1, q.1), (a.0, c.0, g.0))
 
   -- a point row that is written is read
   pub point_row_is : (x y : Spot) (us : Ahead) → Spelt (body (point_row x y)) ts us → Formed (point_row x y) → Fresh rows (point_row x y) → a_point_row rows at ts ≡ got (point_row x y) us
@@ -143,7 +143,7 @@ module _ (rows : Sofar) (at : ℕ) (ts : Ahead) where
       let o = joint_sound c.1 d.0 d.1 d.2 in
       let l = list_sound Settings d.1 g.0 g.1 g.2 in
       finish rows Layout (word at (head_word heads.a_way)) ts r us (way_row b.0 c.0 d.0 g.0) g.1 g.3
-      (refl, (at, refl), (0, b.1, p.0, (0, c.1, q.0, (0, d.1, o.0, l.0))), (p.1, q.1, o.1, l.1), a.0)
+      (refl {a = true}, (at, refl), (0, b.1, p.0, (0, c.1, q.0, (0, d.1, o.0, l.0))), (p.1, q.1, o.1, l.1), a.0)
 
   -- a way row that is written is read
   pub way_row_is : (x y z : Spot) (ps : List (Pair Spot)) (us : Ahead) → Closed us → Spelt (body (way_row x y z ps)) ts us → Formed (way_row x y z ps) → Fresh rows (way_row x y z ps) → a_way_row rows at ts ≡ got (way_row x y z ps) us
@@ -175,7 +175,7 @@ module _ (rows : Sofar) (at : ℕ) (ts : Ahead) where
       let p = joint_sound ts b.0 b.1 b.2 in
       let q = segment_sound b.1 d.0 d.1 d.2 in
       finish rows Layout (word at (head_word heads.a_signal)) ts r us (signal_row b.0 d.0) d.1 g.1
-      (refl, (at, refl), (0, b.1, p.0, (0, d.1, q.0, refl)), (p.1, q.1), (a.0, g.0))
+      (refl {a = true}, (at, refl), (0, b.1, p.0, (0, d.1, q.0, refl)), (p.1, q.1), (a.0, g.0))
 
   -- a signal row that is written is read
   pub signal_row_is : (x y : Spot) (us : Ahead) → Spelt (body (signal_row x y)) ts us → Formed (signal_row x y) → Fresh rows (signal_row x y) → a_signal_row rows at ts ≡ got (signal_row x y) us

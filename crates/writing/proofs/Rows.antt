@@ -3,7 +3,7 @@ use Rattle.std.proofs.Common.{List, Some}
 use Rattle.text.specs.Ahead.{Ahead}
 use Rattle.forms.specs.Things.{Spot}
 use Rattle.rows.specs.Rows.{Row}
-use Rattle.sheets.specs.declared.sections.Part.{Part}
+use Rattle.sheets.specs.Sections.{Part}
 use Rattle.writing.specs.Laws.{RowsLaw}
 use Rattle.writing.proofs.Parts.{closes}
 use Rattle.writing.proofs.Turns.{turn_sound}

@@ -5,10 +5,8 @@ use Rattle.text.specs.Ahead.{Ahead, token}
 use Rattle.text.specs.Out.{Out, got, bad, bind}
 use Rattle.forms.specs.Things.{Spot}
 use Rattle.rows.specs.Rows.{Row}
-use Rattle.sheets.specs.declared.sections.Part.{Part}
-use Rattle.sheets.specs.declared.sections.Part.TheVariants.{Layout, Data}
+use Rattle.sheets.specs.Sections.{Part, Layout, Data, a_turn, with_row, section}
 use Rattle.sheets.specs.Layout.{Sofar}
-use Rattle.sheets.specs.Sections.{a_turn, with_row, section}
 use Rattle.writing.specs.Marks.{Spelt}
 use Rattle.writing.specs.Spelling.{spelling, spellings}
 use Rattle.writing.specs.Forms.{Follow}

@@ -4,15 +4,15 @@ use Rattle.std.proofs.lemmas.Bool.{cond-false, ltb-false, le-ltb}
 use Rattle.text.specs.Ahead.{Ahead, ends, tokens_from}
 use Rattle.text.specs.Out.{Out, got, bad}
 use Rattle.forms.specs.Heads as heads
-use Rattle.sheets.specs.declared.sections.Part.TheVariants.{Layout, Data}
+use Rattle.sheets.specs.Sections.{Layout, Data, section, sheet_of, sheet}
 use Rattle.sheets.specs.Layout.{Sofar}
 use Rattle.sheets.specs.Outcomes.{done, outcome}
-use Rattle.sheets.specs.Sections.{section, sheet_of, sheet}
 use Rattle.writing.specs.Marks.{Mark, the_star, says, Spelt}
 use Rattle.writing.specs.Spelling.{spellings, whole}
 use Rattle.writing.specs.Words.{head_word}
 use Rattle.writing.specs.Forms.{Follow}
-use Rattle.writing.proofs.Counts.{size, tokens_size, spelt_size, spelt_end, rows_size}
+use Rattle.sheets.proofs.Shorter.{size, tokens_size}
+use Rattle.writing.proofs.Counts.{spelt_size, spelt_end, rows_size}
 use Rattle.writing.proofs.Fine.{spelt_join, spelt_part}
 use Rattle.writing.proofs.Steps.{bind_got, bind_is}
 use Rattle.writing.proofs.Sections.{section_sound, section_is}

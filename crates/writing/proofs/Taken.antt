@@ -7,11 +7,9 @@ use Rattle.forms.specs.Heads as heads
 use Rattle.forms.specs.Heads.{Head}
 use Rattle.forms.specs.Things.{Spot}
 use Rattle.rows.specs.Rows.{Row, segment_row, joint_row, point_row, way_row, signal_row, request_row, activation_row, move_row, release_row, zone_row}
-use Rattle.sheets.specs.declared.sections.Part.{Part}
-use Rattle.sheets.specs.declared.sections.Part.TheVariants.{Layout, Data}
+use Rattle.sheets.specs.Sections.{Part, Layout, Data, layout_turn, data_by_head, data_turn, a_turn}
 use Rattle.sheets.specs.Layout.{Sofar, a_row}
 use Rattle.sheets.specs.Data.{a_data_row}
-use Rattle.sheets.specs.Sections.{layout_turn, data_by_head, data_turn, a_turn}
 use Rattle.writing.specs.Marks.{token_of, Spelt}
 use Rattle.writing.specs.Spelling.{head_mark, spelling}
 use Rattle.writing.specs.Forms.{May}

@@ -1,10 +1,10 @@
 -- A word is read as a thing exactly when it is the word that writes the thing.
 use Rattle.std.proofs.Common.{◌≡◌, ℕ, true, false, eqb, List, [], ◌∷◌, ◌++◌, Some, None, codes, Option, sym, refl, ap, ◌∙◌, subst, arith}
-use Rattle.std.specs.Option.{option_map}
+use Rattle.std.specs.Option.{option_map, option_or}
 use Rattle.std.proofs.lemmas.Bool.{eqb-false, both_ways}
 use Rattle.text.specs.Octets.{naming}
 use Rattle.forms.specs.Words.{is_joint, prefixed, bracketed, joined}
-use Rattle.forms.specs.Things.{Spot, Thing, segment, point, route, zone, subroute, try, name_at, thing_of}
+use Rattle.forms.specs.Things.{Spot, Thing, segment, point, route, zone, subroute, try, name_at, names_at, thing_of}
 use Rattle.naming.specs.Unknown.{thing_at}
 use Rattle.writing.specs.Words.{thing_word, zone_word, subroute_word, Named}
 use Rattle.writing.specs.Texts.{only}
@@ -55,11 +55,8 @@ zone_miss a b s t = by _ refl
 -- the thing that a word at offset i is, by what each form finds in it
 abbrev thing_by : ℕ → Option (List ℕ) → Option (List ℕ) → Option (List ℕ) → Option (List ℕ) → Option (List ℕ × List ℕ) → Option (Thing Spot)
 thing_by i s p r z u =
-    try (name_at (i, []) s) segment
-    (try (name_at (i, []) p) point
-    (try r (λ x. route (i, x))
-    (try z (λ x. zone (i, x))
-    (option_map (λ q. subroute (i, q.0) (i, q.1)) u))))
+    option_or (try (name_at (i, []) s) segment (try (name_at (i, []) p) point (option_map (λ x. route x) (name_at (i, []) r))))
+    (try (name_at (i, []) z) zone (option_map (λ q. subroute q.0 q.1) (names_at (i, []) u)))
 
 -- the word writes the thing
 abbrev Writes : Spot → Thing Spot → Type 0

@@ -1,19 +1,16 @@
 -- The token at the front of a list of octets, as it is set there.
-use Rattle.std.proofs.Common.{◌≡◌, ℕ, suc, ◌+◌, ◌-◌, ◌<◌, ◌≤◌, Bool, true, false, cond, eqb, ltb, List, [], ◌∷◌, length, get_or, take, drop, Some, None, Ok, Err, Option, Result, sym, refl, ap, ◌∙◌, inl, inr, add-zero, arith}
+use Rattle.std.proofs.Common.{◌≡◌, ℕ, suc, ◌+◌, ◌-◌, ◌<◌, ◌≤◌, Bool, true, false, cond, eqb, List, [], ◌∷◌, length, get_or, take, drop, slice_range, Some, None, Ok, Option, Result, sym, refl, ap, ◌∙◌, add-zero, arith}
 use Rattle.std.specs.List.{prefix_len}
 use Rattle.std.proofs.lemmas.List.{length-drop, get_or-drop}
-use Rattle.std.proofs.lemmas.Bool.{cond-true, cond-false, le-leb, lt-leb, le-ltb, lt-ltb, cases_lt}
+use Rattle.std.proofs.lemmas.Bool.{cond-true, cond-false, le-leb, lt-leb}
 use Rattle.text.specs.declared.faults.WordFault.{WordFault}
-use Rattle.text.specs.declared.faults.WordFault.TheVariants.{Octet, Long}
 use Rattle.text.specs.declared.octets.Class.TheVariants.{Inner}
-use Rattle.text.specs.Octets.{allowed, inner, past}
-use Rattle.text.specs.Tokens.{Item, star, comma, word_between, as_item, token_at, end_at}
+use Rattle.text.specs.Octets.{inner, past}
+use Rattle.text.specs.Tokens.{Item, star, comma, checked, as_item, token_at, end_at}
 
 -- the word at the front of a list that begins at offset i
 abbrev pub word_on : ℕ → List ℕ → Result (List ℕ) WordFault
-word_on i v =
-    cond (ltb (prefix_len allowed v) (prefix_len inner v)) (Err (Octet i))
-    (cond (ltb 16 (prefix_len inner v)) (Err (Long i)) (Ok (take (prefix_len inner v) v)))
+word_on i v = checked i (take (prefix_len inner v) v)
 
 -- the token at the front
 abbrev pub token_on : ℕ → List ℕ → Result (Option Item) WordFault
@@ -26,19 +23,12 @@ abbrev pub width : List ℕ → ℕ
 width [] = 0
 width (c ∷ cs) = cond (eqb c 42) 1 (cond (eqb c 44) 1 (prefix_len inner (c ∷ cs)))
 
--- a comparison from a place on
-same_ltb : (i a b : ℕ) → ltb (i + a) (i + b) ≡ ltb a b
-same_ltb i a b =
-    elim (cases_lt a b) [ inl h ↦ lt-ltb (i + a) (i + b) (omega arith) ∙ sym (lt-ltb a b h) | inr h ↦ le-ltb (i + a) (i + b) (omega arith) ∙ sym (le-ltb a b h) ]
-
 module _ (t : List ℕ) (i : ℕ) where
   -- the word at a place is the one at the front of what is left there
-  word_is : (v : List ℕ) → drop i t ≡ v → word_between t i (past Inner t i) ≡ word_on i v
+  word_is : (v : List ℕ) → drop i t ≡ v → checked i (slice_range t i (past Inner t i)) ≡ word_on i v
   word_is v e =
       let m : i + prefix_len inner v - i ≡ prefix_len inner v = omega arith in
-      ap (λ y. cond (ltb (i + prefix_len allowed y) (i + prefix_len inner y)) (Err (Octet i)) (cond (ltb 16 (i + prefix_len inner y - i)) (Err (Long i)) (Ok (take (i + prefix_len inner y - i) y)))) e
-      ∙ ap (λ b. cond b (Err (Octet i)) (cond (ltb 16 (i + prefix_len inner v - i)) (Err (Long i)) (Ok (take (i + prefix_len inner v - i) v)))) (same_ltb i (prefix_len allowed v) (prefix_len inner v))
-      ∙ ap (λ n. cond (ltb (prefix_len allowed v) (prefix_len inner v)) (Err (Octet i)) (cond (ltb 16 n) (Err (Long i)) (Ok (take n v)))) m
+      ap (λ y. checked i (take (i + prefix_len inner y - i) y)) e ∙ ap (λ n. checked i (take n v)) m
 
   -- the octet at a place is the first of what is left there
   first_is : (c : ℕ) (cs : List ℕ) → drop i t ≡ c ∷ cs → get_or t i 0 ≡ c
@@ -56,7 +46,7 @@ module _ (t : List ℕ) (i : ℕ) where
       let m : length (drop i t) ≡ suc (length cs) = ap length e in
       let n : i < length t = omega arith in
       cond-false _ _ _ (lt-leb _ _ n)
-      ∙ ap (λ b. cond (eqb b 42) (Ok (Some (star i))) (cond (eqb b 44) (Ok (Some (comma i))) (as_item i (word_between t i (past Inner t i))))) (first_is c cs e)
+      ∙ ap (λ b. cond (eqb b 42) (Ok (Some (star i))) (cond (eqb b 44) (Ok (Some (comma i))) (as_item i (checked i (slice_range t i (past Inner t i)))))) (first_is c cs e)
       ∙ ap (λ r. cond (eqb c 42) (Ok (Some (star i))) (cond (eqb c 44) (Ok (Some (comma i))) (as_item i r))) (word_is (c ∷ cs) e)
 
   -- an end counted from a place

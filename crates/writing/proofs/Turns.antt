@@ -8,11 +8,9 @@ use Rattle.forms.specs.Heads.{Head, head}
 use Rattle.forms.specs.Things.{Spot}
 use Rattle.rows.specs.Rows.{Row}
 use Rattle.steps.specs.Words.{a_word, a_star, a_star_or_end}
-use Rattle.sheets.specs.declared.sections.Part.{Part}
-use Rattle.sheets.specs.declared.sections.Part.TheVariants.{Layout, Data}
+use Rattle.sheets.specs.Sections.{Part, Layout, Data, layout_by_head, layout_turn, data_by_head, data_after, data_turn, a_turn}
 use Rattle.sheets.specs.Layout.{Sofar, a_segment_row, a_joint_row, a_point_row, a_way_row, a_signal_row, a_row, a_layout_row}
 use Rattle.sheets.specs.Data.{a_data_row}
-use Rattle.sheets.specs.Sections.{layout_by_head, layout_turn, data_by_head, data_after, data_turn, a_turn}
 use Rattle.writing.specs.Marks.{the_star, says, Spelt}
 use Rattle.writing.specs.Spelling.{spelling}
 use Rattle.writing.specs.Forms.{May}

@@ -1,19 +1,18 @@
 -- A form finds a name in a word exactly where the word is the front, the name and the end.
-use Rattle.std.proofs.Common.{◌≡◌, ℕ, ◌+◌, ◌-◌, ◌<◌, ◌≤◌, Bool, true, false, cond, eqb, ltb, List, [], ◌∷◌, ◌++◌, length, get_or, take, drop, Some, None, Option, sym, refl, ap, ◌∙◌, append_assoc, arith, length-append}
+use Rattle.std.proofs.Common.{◌≡◌, ℕ, ◌+◌, ◌-◌, ◌<◌, Bool, true, false, cond, eqb, ltb, List, [], ◌∷◌, ◌++◌, length, get_or, take, drop, Some, None, Option, sym, refl, ap, ◌∙◌, append_assoc, arith}
 use Rattle.std.specs.Str.{bytes_eq}
 use Rattle.std.proofs.lemmas.Slice.Eq.{bytes_eq-Decides}
 use Rattle.std.proofs.lemmas.List.{take-append-drop, take_at, drop_at, take_more, take_all, length_push, get_or_push}
-use Rattle.std.proofs.lemmas.Bool.{cond-true, cond-false, lt-ltb, le-ltb, ltb-true, eqb-true, eq-eqb}
+use Rattle.std.proofs.lemmas.Bool.{cond-true, lt-ltb, ltb-true, eqb-true, eq-eqb}
 use Rattle.forms.specs.Words.{is_name, after, before, when, then_after, prefixed, bracketed}
 
 -- what follows a front, with the front before it, is the word
 pub after_sound : (front w x : List ℕ) → after front w ≡ Some x → w ≡ front ++ x
-after_sound front w x e = by _ _ refl e
+after_sound front w x e = by _ refl e
   where
-    by : (b c : Bool) → bytes_eq (take (length front) w) front ≡ c → cond b None (cond c (Some (drop (length front) w)) None) ≡ Some x → w ≡ front ++ x
-    by true c s f = let z : ◌≡◌ {A = ℕ} 0 1 = cc in absurd (omega arith)
-    by false false s f = let z : ◌≡◌ {A = ℕ} 0 1 = cc in absurd (omega arith)
-    by false true s f =
+    by : (c : Bool) → bytes_eq (take (length front) w) front ≡ c → cond c (Some (drop (length front) w)) None ≡ Some x → w ≡ front ++ x
+    by false s f = let z : ◌≡◌ {A = ℕ} 0 1 = cc in absurd (omega arith)
+    by true s f =
         let g : take (length front) w ≡ front = (bytes_eq-Decides _ _).0 s in
         let h : drop (length front) w ≡ x = cc in
         sym (take-append-drop (length front) w) ∙ ap (λ y. y ++ drop (length front) w) g ∙ ap (λ y. front ++ y) h
@@ -21,9 +20,8 @@ after_sound front w x e = by _ _ refl e
 -- a front is found
 pub after_is : (front x : List ℕ) → after front (front ++ x) ≡ Some x
 after_is front x =
-    let long : length front ≤ length (front ++ x) = simp length-append (omega arith) in
     let same : bytes_eq (take (length front) (front ++ x)) front ≡ true = (bytes_eq-Decides _ _).1 (take_at front x _ refl) in
-    cond-false _ _ _ (le-ltb _ _ long) ∙ cond-true _ _ _ same ∙ ap Some (drop_at front x _ refl)
+    cond-true _ _ _ same ∙ ap Some (drop_at front x _ refl)
 
 -- what comes before a last octet, with the octet behind it, is the word
 pub before_sound : (last : ℕ) (w x : List ℕ) → before last w ≡ Some x → w ≡ x ++ last ∷ []

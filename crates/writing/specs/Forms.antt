@@ -3,8 +3,6 @@ use Rattle.std.specs.Prelude.{◌≡◌, ◌≤◌, Bool, true, false, not, ◌�
 use Rattle.forms.specs.declared.states.State.{State}
 use Rattle.forms.specs.declared.lists.Listing.{Listing}
 use Rattle.forms.specs.declared.lists.Listing.TheVariants.{Settings, RequestTests, Actions, ActivationTests, PointTests, ReleaseTests}
-use Rattle.forms.specs.declared.lists.Choice.{Choice}
-use Rattle.forms.specs.declared.lists.Choice.TheVariants.{Nothing, One, Two}
 use Rattle.forms.specs.Lists.{choice, most}
 use Rattle.forms.specs.Things.{Spot}
 use Rattle.forms.specs.Words.{is_joint, is_name}
@@ -12,15 +10,13 @@ use Rattle.rows.specs.declared.filters.Kind.TheVariants as kind
 use Rattle.rows.specs.Filters.{move_kind, full, known, crowded}
 use Rattle.rows.specs.Rows.{Pair, Far, far_segment, far_outside, far_buffer, Row, segment_row, joint_row, point_row, way_row, signal_row, request_row, activation_row, move_row, release_row, zone_row}
 use Rattle.steps.specs.Pairs.{in_path, subroutes}
-use Rattle.sheets.specs.declared.sections.Part.{Part}
-use Rattle.sheets.specs.declared.sections.Part.TheVariants.{Layout, Data}
+use Rattle.sheets.specs.Sections.{Part, Layout, Data}
 use Rattle.writing.specs.Words.{Named}
 
 -- a state is one of those to choose from
-abbrev pub Among : Choice → State → Type 0
-Among Nothing s = ⊥
-Among (One a) s = s ≡ a
-Among (Two a b) s = (s ≡ a) ⊎ (s ≡ b)
+abbrev pub Among : List State → State → Type 0
+Among [] s = ⊥
+Among (a ∷ rest) s = (s ≡ a) ⊎ Among rest s
 
 -- a thing is well named, and may stand in the list in its state
 abbrev pub Stands : Listing → Pair Spot → Type 0

@@ -8,8 +8,7 @@ use Rattle.forms.specs.Heads.{Head, head}
 use Rattle.forms.specs.Things.{Spot, Thing, thing_of}
 use Rattle.rows.specs.Rows.{Pair, Row}
 use Rattle.steps.specs.Pairs.{a_list}
-use Rattle.sheets.specs.declared.sections.Part.{Part}
-use Rattle.sheets.specs.Sections.{a_turn}
+use Rattle.sheets.specs.Sections.{Part, a_turn}
 use Rattle.naming.specs.Unknown.{thing_at}
 use Rattle.writing.specs.Words.{thing_word, Named, head_word, Heads}
 use Rattle.writing.specs.Texts.{Sets, Sound}

@@ -1,13 +1,13 @@
 -- How tokens are set in a text: as many blanks before each as one likes, and behind a word a blank, a mark or the end.
-use Rattle.std.specs.Prelude.{◌≡◌, ℕ, ◌+◌, ◌<◌, ◌≤◌, Bool, true, false, ◌&&◌, List, [], ◌∷◌, ◌++◌, length, codes}
+use Rattle.std.specs.Prelude.{◌≡◌, ℕ, ◌+◌, ◌<◌, ◌≤◌, Bool, true, false, List, [], ◌∷◌, ◌++◌, length, codes}
+use Rattle.std.specs.List.{list_all}
 use Rattle.text.specs.Octets.{blank, allowed, inner}
 use Rattle.text.specs.Tokens.{Item, star, comma, word}
 use Rattle.text.specs.Ahead.{Ahead, ends, spoilt, token}
 
 -- all octets pass
 abbrev pub only : (ℕ → Bool) → List ℕ → Bool
-only p [] = true
-only p (x ∷ xs) = p x && only p xs
+only p xs = list_all p xs
 
 -- nothing, or first an octet that does not pass
 abbrev pub Stops : (ℕ → Bool) → List ℕ → Type 0

@@ -5,7 +5,7 @@ use Rattle.forms.specs.Things.{Spot}
 use Rattle.rows.specs.declared.faults.ReadingFault.{ReadingFault}
 use Rattle.rows.specs.declared.faults.ReadingFault.TheVariants.{Memory}
 use Rattle.rows.specs.Rows.{Row}
-use Rattle.sheets.specs.declared.sections.Part.TheVariants.{Layout, Data}
+use Rattle.sheets.specs.Sections.{Layout, Data}
 use Rattle.sheets.specs.Outcomes.{done}
 use Rattle.naming.specs.Index.{index_of}
 use Rattle.naming.specs.Unknown.{first_unknown}

@@ -10,6 +10,7 @@ use std::alloc::Global;
 // Reads the text into the tables, whatever they held; on any refusal they are left empty. A text that is read is
 // a writing of the station that the tables then say, and every writing of a station is read as that station, or
 // memory was wanting.
+#[tactic(auto, using(crate::proofs::Writings::written, crate::proofs::Writings::whole))]
 pub fn read(text: &[u8], heap: Global, tables: &mut Tables) -> Result<(), ReadingFault>
     ensures settles { Settles result (station tables.new) (reading text.now) }
     ensures written { WhereRead result (Written text.now (station tables.new)) }

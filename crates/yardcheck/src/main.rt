@@ -5,7 +5,7 @@
 use station::Tables;
 use std::io::Read;
 use std::process::ExitCode;
-use verdicts::{Explained, Line, Verdict, judge};
+use verdicts::{Explained, Line, judge};
 
 // One octet more than the longest text, so that a longer one is told.
 const MOST: u64 = 32_769;
@@ -23,7 +23,7 @@ fn main(rt: HostRuntime) -> anyhow::Result<ExitCode> {
         verdict,
     };
     println!(rt; "{line}")?;
-    if let Verdict::Accepted(_, _) = verdict {
+    if verdict.is_ok() {
         return Ok(ExitCode::SUCCESS);
     }
     let explained = Explained {

@@ -1,12 +1,12 @@
 // The reader's steps.
 ghost use Rattle.std.specs.Prelude.{◌≡◌, ◌≤◌, length};
 ghost use Rattle.std.specs.Option.{option_map};
-ghost use Rattle.text.specs.Out.{word_out, a_peek, a_comma, comma_next};
-ghost use Rattle.text.specs.Tokens.{item, yielded, next_token, next_place, word_of, word_between};
+ghost use Rattle.text.specs.Out.{word_out, a_peek, a_comma};
+ghost use Rattle.text.specs.Tokens.{item, yielded, next_token, next_place, checked, as_item};
 ghost use Rattle.text.specs.Ahead.{tokens_ahead, follow, text_of, place_of};
 
 use crate::faults::WordFault;
-use crate::octets::{Class, run_end};
+use crate::octets::Class;
 use crate::reader::Reader;
 use crate::tokens::{Token, Word};
 
@@ -30,6 +30,7 @@ impl<'a> Reader<'a> {
     }
 
     // The next token, or none at the end of the text.
+    #[tactic(auto, using(crate::proofs::Steps::tokens_step), unfolding(crate::specs::Ahead::tokens_ahead))]
     pub fn next(&mut self) -> Result<Option<Token<'a>>, WordFault>
         ensures value { yielded result ≡ next_token (text_of self.old) (place_of self.old) }
         ensures place { place_of self.new ≡ next_place (text_of self.old) (place_of self.old) }
@@ -40,6 +41,7 @@ impl<'a> Reader<'a> {
     }
 
     // The next token, which stays to be read.
+    #[tactic(auto, unfolding(crate::specs::Ahead::tokens_ahead))]
     pub fn peek(&self) -> Result<Option<Token<'a>>, WordFault>
         ensures { word_out (option_map item) result (tokens_ahead self.now) ≡ a_peek (tokens_ahead self.now) }
     {
@@ -51,67 +53,56 @@ impl<'a> Reader<'a> {
     }
 
     // Passes over a comma, where one comes next, and says whether one did.
+    #[tactic(auto, unfolding(crate::specs::Ahead::tokens_ahead))]
     pub fn comma(&mut self) -> Result<bool, WordFault>
         ensures value { word_out (λ b. b) result (tokens_ahead self.new) ≡ a_comma (tokens_ahead self.old) }
         ensures same { text_of self.new ≡ text_of self.old }
     {
         let start = self.at;
-        let next = self.next()?;
-        if is_comma(next) {
-            return Ok(true);
+        let found = matches!(self.next()?, Some(Token::Comma(_)));
+        if !found {
+            self.at = start;
         }
-        self.at = start;
-        Ok(false)
+        Ok(found)
     }
 
+    // The same; `next` adds what the tokens ahead then are, which search does not prove at each arm.
     fn step(&mut self) -> Result<Option<Token<'a>>, WordFault>
         ensures value { yielded result ≡ next_token (text_of self.old) (place_of self.old) }
         ensures place { place_of self.new ≡ next_place (text_of self.old) (place_of self.old) }
         ensures same { text_of self.new ≡ text_of self.old }
     {
         let text = self.text;
-        let start = run_end(text, self.at, Class::Blank);
-        if start >= text.len() {
-            self.at = start;
-            return Ok(None);
+        let start = self.at + Class::Blank.run(&text[self.at..]);
+        self.at = start;
+        match text.get(start) {
+            None => Ok(None),
+            Some(b'*') => {
+                self.at = start + 1;
+                Ok(Some(Token::Star(start)))
+            }
+            Some(b',') => {
+                self.at = start + 1;
+                Ok(Some(Token::Comma(start)))
+            }
+            Some(_) => {
+                let end = start + Class::Inner.run(&text[start..]);
+                self.at = end;
+                word(&text[start..end], start)
+            }
         }
-        if text[start] == b'*' {
-            self.at = start + 1;
-            return Ok(Some(Token::Star(start)));
-        }
-        if text[start] == b',' {
-            self.at = start + 1;
-            return Ok(Some(Token::Comma(start)));
-        }
-        let end = run_end(text, start, Class::Inner);
-        self.at = end;
-        let octets = word(text, start, end)?;
-        Ok(Some(Token::Word(Word { octets, at: start })))
     }
 }
 
-fn is_comma(token: Option<Token>) -> bool
-    ensures { result ≡ comma_next token.entry }
+// The word of these octets at an offset, where a word may have them and as many.
+fn word(octets: &[u8], at: usize) -> Result<Option<Token>, WordFault>
+    ensures { yielded result ≡ as_item at (checked at octets.now) }
 {
-    match token {
-        Some(Token::Comma(_)) => true,
-        Some(Token::Star(_)) => false,
-        Some(Token::Word(_)) => false,
-        None => false,
+    if !Class::Allowed.all(octets) {
+        return Err(WordFault::Octet(at));
     }
-}
-
-// The octets of the word from `start` to `end`.
-fn word(text: &[u8], start: usize, end: usize) -> Result<&[u8], WordFault>
-    requires { (start ≤ end) × (end ≤ length text.now) }
-    ensures { word_of result ≡ word_between text.now start end }
-{
-    let clean = run_end(text, start, Class::Allowed);
-    if clean < end {
-        return Err(WordFault::Octet(start));
+    if octets.len() > LONGEST {
+        return Err(WordFault::Long(at));
     }
-    if end - start > LONGEST {
-        return Err(WordFault::Long(start));
-    }
-    Ok(&text[start..end])
+    Ok(Some(Token::Word(Word { octets, at })))
 }

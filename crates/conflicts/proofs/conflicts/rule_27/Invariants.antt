@@ -8,5 +8,5 @@ abbrev pub invariant-loop-route : goal.invariant-loop-route
 invariant-loop-route l =
     (l.marks.saved ≡ l.initial.marks.saved)
     × (l.marks.board.ghost_name ≡ l.initial.marks.board.ghost_name)
-    × (first_from (λ r. tripled r (first_other (station l.tables) r)) 0 l.routes
-    ≡ first_from (λ r. tripled r (first_other (station l.tables) r)) l.route (l.routes - l.route))
+    × (first_from (λ r. tripled r (first_other (station l.tables) r)) 0 l.route-end
+    ≡ first_from (λ r. tripled r (first_other (station l.tables) r)) l.route (l.route-end - l.route))

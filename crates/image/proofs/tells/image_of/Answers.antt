@@ -6,8 +6,7 @@ use Rattle.image.specs.Laws.{AnswersWhere}
 use Rattle.image.proofs.Able.{answers_where}
 use Rattle.image.proofs.tells.image_of.Goals as goal
 
-pub returns : goal.returns
-returns c = record {
-  value = c.written.ensures;
-  able = IfOk-weaker c.written.result (λ o. Told o (image (kept c.args.track.now))) (λ o. AnswersWhere o (kept c.args.track.now)) (λ o. answers_where o (kept c.args.track.now)) c.written.ensures;
-}
+pub returns-clause-able : goal.returns-clause-able
+returns-clause-able c =
+    let k = kept c.args.track.now in
+    IfOk-weaker c.written.result (λ o. Told o (image k)) (λ o. AnswersWhere o k) (λ o. answers_where o k) c.written.ensures

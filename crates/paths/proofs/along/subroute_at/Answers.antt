@@ -1,20 +1,16 @@
-use Rattle.std.proofs.Common.{get_or, sym, ap, ◌∙◌}
-use Rattle.paths.proofs.Loops.{path_more, path_end, first_here, later_here, same_here}
+use Rattle.std.proofs.Common.{rules, ◌≡◌, ℕ, ◌∙◌, sym, refl, Option, Some, None}
+use Rattle.std.specs.Option.{option_map}
+use Rattle.std.proofs.lemmas.Iterator.{YieldsList-from_slice}
+use Rattle.std.proofs.lemmas.Iterator.Consumers.{nth_from_yields_List, YieldsList-from_filter_map}
+use Rattle.station.specs.Paths.{taken}
+use borrow.Author.Tests.{tests}
 use Rattle.paths.proofs.along.subroute_at.Goals as goal
-use Rattle.paths.proofs.along.subroute_at.Goals.{in-Some+else-left-eq0, in_default}
 
-pub returns-then-left-eq0 : goal.returns-then-left-eq0
-returns-then-left-eq0 c =
-    first_here _ _ _ _ c.if-left-eq0.true (path_more c.args.actions.now c.loop-a.a-index _ c.loop-a-test.true _ c.in-Some.ensures) ∙ c.loop-a.invariant
-
-pub loop-a-preserved : goal.loop-a-preserved
-loop-a-preserved c =
-    elim c.match-taken.branch [
-      | in-Some+else-left-eq0 w ↦
-          later_here _ _ _ _ _ w.if-left-eq0.false w.left-is (path_more c.args.actions.now c.loop-a.a-index _ c.loop-a-test.true _ w.in-Some.ensures) ∙ c.loop-a.invariant
-      | in_default w ↦
-          same_here _ _ _ _ w.left-is (path_more c.args.actions.now c.loop-a.a-index _ c.loop-a-test.true _ w.in_default.ensures) ∙ c.loop-a.invariant
-    ]
+itself : (o : Option ℕ) → o ≡ option_map (λ r. r) o
+itself None = refl
+itself (Some x) = refl
 
 pub returns : goal.returns
-returns c = sym (ap (λ us. get_or us c.loop-a.left 0) (path_end c.args.actions.now c.loop-a.a-index c.loop-a-test.false)) ∙ c.loop-a.invariant
+returns c =
+    itself c.nth.result
+    ∙ nth_from_yields_List c.nth.result c.nth.new.self c.args.k c.nth.ensures.ran (YieldsList-from_filter_map _ taken (YieldsList-from_slice c.args.actions.now cc) c.filter_map.ensures.closure (λ x r q k. search (rules, tests)))

@@ -1,20 +1,17 @@
-use Rattle.std.proofs.Common.{◌≡◌, ◌<◌, length, ◌∙◌, arith}
-use Rattle.std.proofs.lemmas.List.{length-set}
-use Rattle.interlocking.specs.Machines.{state_of}
-use Rattle.running.proofs.Going.{begun, one_more}
+use Rattle.std.proofs.Common.{◌+◌, ◌<◌, List, length, vec_capacity, vec_len, ap, ◌∙◌, arith}
+use Rattle.calls.specs.declared.values.Answer.{Answer}
+use Rattle.running.proofs.Logs.{grown, one_more}
 use Rattle.track.specs.Meaning.{laid}
 use Rattle.running.proofs.carrying.carry_out.Goals as goal
 
-pub loop-i-init : goal.loop-i-init
-loop-i-init g c =
-    let long : length c.args.answers.now.items ≡ length c.args.calls.now = omega (arith, c.args.answers.now.ok.0, c.requires) in
-    (long, λ m b. begun (laid c.args.station.now) c.args.station.now.ok m (state_of g.T.Trackside.meaning c.args.machine.now) b)
-
-pub loop-i-preserved : goal.loop-i-preserved
-loop-i-preserved g c =
+pub loop-call-preserved : goal.loop-call-preserved
+loop-call-preserved g c =
     let cs = c.args.calls.now in
-    let ans = c.loop-i.answers.items in
-    let same = c.loop-i.invariant.0 in
-    let hc : c.loop-i.i < length cs = c.loop-i-test.true in
-    let ha : c.loop-i.i < length ans = omega (arith, hc, same) in
-    (length-set ans c.loop-i.i c.call.result ∙ same, λ m b. one_more (laid c.args.station.now) c.args.station.now.ok m cs ans c.loop-i.i hc ha _ (c.loop-i.invariant.1 m b) _ c.call.result _ c.call.ensures)
+    let inv = c.loop-call.invariant in
+    let l : c.loop-call.call-index < length cs = c.loop-call-test.true in
+    let room : vec_len c.loop-call.answers < vec_capacity c.loop-call.answers = omega (arith, l, inv.0, inv.1) in
+    let ok = c.push.ensures.succeeds room in (
+      grown _ _ _ _ ok c.push.ensures.len ∙ ap (λ n. n + 1) inv.0,
+      omega (arith, inv.1, c.push.ensures.capacity),
+      one_more (laid c.args.station.now) cs c.loop-call.call-index _ _ _ _ _ _ _ l inv.2 c.call-answer.ensures (grown {X = List Answer} _ _ _ _ ok c.push.ensures.items),
+    )

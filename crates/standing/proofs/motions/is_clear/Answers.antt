@@ -1,20 +1,10 @@
-use mathlib.Core.Bool.{not}
-use mathlib.Core.Path.{sym, ap, ◌∙◌}
-use Rattle.firsts.specs.Claims.{any_below}
-use Rattle.firsts.proofs.Below.{any_none, any_more, any_stop, at_end}
+use Rattle.std.proofs.Common.{ℕ, rules, not, refl, ap}
+use Rattle.firsts.proofs.Found.{found_any}
+use Rattle.track.specs.Meaning.{train_at}
 use Rattle.track.specs.Trains.{holds}
 use Rattle.standing.proofs.motions.is_clear.Goals as goal
 
-pub returns-then-holds : goal.returns-then-holds
-returns-then-holds g c =
-    ap not (sym (any_stop _ _ _ c.loop-i-test.true (ap (λ t. holds t c.args.segment) (sym c.train_at.ensures) ∙ sym c.if-holds.ensures)))
-
-pub loop-i-init : goal.loop-i-init
-loop-i-init g c = any_none _
-
-pub loop-i-preserved : goal.loop-i-preserved
-loop-i-preserved g c =
-    any_more _ _ c.loop-i.invariant (ap (λ t. holds t c.args.segment) (sym c.train_at.ensures) ∙ sym c.if-holds.ensures)
-
 pub returns : goal.returns
-returns g c = ap not (at_end (any_below _) _ _ _ c.loop-i.auto.i-end c.loop-i-test.false c.loop-i.invariant)
+returns g c =
+    let held = λ (i : ℕ). holds (train_at (g.S.Standing.told c.args.track.now) i) c.args.segment in
+    ap not (found_any _ _ held (search rules) (λ i b e. search rules) 16 c.any.result _ refl refl c.any.ensures.runs)

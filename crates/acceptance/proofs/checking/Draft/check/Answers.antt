@@ -2,5 +2,5 @@ use Rattle.std.proofs.Common.{sym}
 use Rattle.acceptance.proofs.Verdicts.{sound_none}
 use Rattle.acceptance.proofs.checking.Draft.check.Goals as goal
 
-pub returns-in-Ok-clause-rules : goal.returns-in-Ok-clause-rules
-returns-in-Ok-clause-rules c = sound_none _ (sym c.in-Ok.ensures.value)
+pub returns-in-None-clause-rules : goal.returns-in-None-clause-rules
+returns-in-None-clause-rules c = sound_none _ (sym c.in-None.ensures.value)

@@ -6,8 +6,4 @@ use Rattle.delay.proofs.calls.DelayTrackside.clear.Goals as goal
 pub returns : goal.returns
 returns g c =
     let d = c.args.self.now in
-    let m = g.T.Trackside.meaning d.below in
-    let s = laid c.args.station.now in
-    let hs = d.holding.counts in
-    let offs = d.holding.derailed in
-    c.clear.ensures ∙ clear_seen s m hs offs c.args.segment
+    c.clear.ensures ∙ clear_seen (laid c.args.station.now) (g.T.Trackside.meaning d.below) d.holding.counts d.holding.derailed c.args.segment

@@ -1,13 +1,6 @@
-use Rattle.std.proofs.Common.{refl}
 use Rattle.track.specs.Meaning.{laid}
-use Rattle.interlocking.proofs.Acting.{acted_all, acted_more}
+use Rattle.interlocking.proofs.Acting.{acted_more}
 use Rattle.interlocking.proofs.machine.Machine.act_all.Goals as goal
-
-pub loop-a-init : goal.loop-a-init
-loop-a-init g c = refl
 
 pub loop-a-preserved : goal.loop-a-preserved
 loop-a-preserved g c = acted_more (laid c.args.station.now) c.args.actions.now c.loop-a.a-index _ _ _ _ c.loop-a-test.true c.loop-a.invariant c.act.ensures
-
-pub returns : goal.returns
-returns g c = acted_all (laid c.args.station.now) c.args.actions.now c.loop-a.a-index _ _ c.loop-a-test.false c.loop-a.invariant

@@ -1,6 +1,0 @@
-use Rattle.std.proofs.Common.{◌∙◌}
-use Rattle.lookups.proofs.Entries.{counted}
-use Rattle.lookups.proofs.counts.point_count.Goals as goal
-
-pub returns : goal.returns
-returns c = c.len.ensures ∙ counted _ c.args.tables.now.points
