@@ -6,7 +6,7 @@ ghost use Rattle.station.specs.Station.{station};
 ghost use Rattle.conflicts.specs.Conflicts.{meets};
 ghost use Rattle.conflicts.specs.Marks.{marked, open_on, lowest_on};
 
-use firsts::least;
+use firsts::{Probe, least};
 use lookups::{request_tests, route_count, segment_of};
 use paths::{on_path, path_length, request_guards};
 use station::Tables;
@@ -25,6 +25,23 @@ pub(crate) struct Marked<'a, 'b> {
     pub(crate) board: &'b [u8; 64],
     pub(crate) tables: &'a Tables,
     pub(crate) route: usize,
+}
+
+// The subroutes of another route that the marked route's request leaves open in a marked segment.
+#[derive(Clone, Copy)]
+struct Open<'a, 'b, 'c> {
+    marked: &'c Marked<'a, 'b>,
+    other: usize,
+}
+
+impl<'a, 'b, 'c> Probe for Open<'a, 'b, 'c> {
+    type Found = usize;
+
+    ghost at = { λ s k. open_on s.marked.now.board.now (station s.marked.now.tables.now) s.marked.now.route s.other k };
+
+    fn probe(&self, k: usize) -> Option<usize> {
+        self.marked.open_at(self.other, k)
+    }
 }
 
 impl<'a, 'b> Marked<'a, 'b> {
@@ -53,7 +70,11 @@ impl<'a, 'b> Marked<'a, 'b> {
     fn lowest_open(&self, other: usize) -> Option<usize>
         ensures { result ≡ lowest_on self.now.board.now (station self.now.tables.now) self.now.route other }
     {
-        least(path_length(self.tables, other), |k| self.open_at(other, k))
+        let open = Open {
+            marked: self,
+            other,
+        };
+        least(&open, path_length(self.tables, other))
     }
 
     fn conflict(&self, other: usize) -> Option<(usize, usize)>

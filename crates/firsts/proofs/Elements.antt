@@ -1,7 +1,8 @@
 -- What tests of every element and of some element of a list tell.
-use Rattle.std.proofs.Common.{◌≡◌, ℕ, ◌<◌, Bool, ◌&&◌, ◌||◌, List, [], ◌∷◌, map, length, get_or, Decides, All, Contains, sym, refl, ap, ◌∙◌, subst}
+use Rattle.std.proofs.Common.{◌≡◌, ℕ, ◌<◌, Bool, ◌&&◌, ◌||◌, List, [], ◌∷◌, map, length, get_or, nat_lt, count_by, cond, true, false, ◌+◌, Decides, All, Contains, sym, refl, ap, ◌∙◌, subst, arith}
 use Rattle.std.specs.List.{HoldsAt}
 use Rattle.std.proofs.lemmas.List.{get_or_default}
+use Rattle.std.proofs.lemmas.List.Sums.{sum_by-cons}
 use Rattle.std.proofs.lemmas.Bool.Decides.{Decides-by_and, Decides-by_or, Decides-like}
 use Rattle.std.proofs.lemmas.List.Elements.{Contains-get_or, All-contains, All-nil, All-weaker, All-contains_itself, Contains-from_at, at_from_Contains}
 use Rattle.firsts.specs.Lists.{all, any}
@@ -47,3 +48,12 @@ module _ {X : Type 0} (p : X → Bool) where
   pub any_map : {Y : Type 0} (f : Y → X) (ys : List Y) → any p (map f ys) ≡ any (λ y. p (f y)) ys
   any_map f [] = refl
   any_map f (y ∷ ys) = ap (λ b. p (f y) || b) (any_map f ys)
+
+-- some element passes exactly where at least one is counted
+pub any_counted : {X : Type 0} (p : X → Bool) (xs : List X) → nat_lt 0 (count_by p xs) ≡ any p xs
+any_counted p [] = refl
+any_counted p (x ∷ xs) = by (p x) refl (sum_by-cons (λ y. cond (p y) 1 0) x xs) (any_counted p xs)
+  where
+    by : (b : Bool) → p x ≡ b → count_by p (x ∷ xs) ≡ cond (p x) 1 0 + count_by p xs → nat_lt 0 (count_by p xs) ≡ any p xs → nat_lt 0 (count_by p (x ∷ xs)) ≡ any p (x ∷ xs)
+    by true e c h = grind arith
+    by false e c h = grind arith

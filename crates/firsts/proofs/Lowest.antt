@@ -1,8 +1,7 @@
 -- What a search for the lowest answer finds.
-use Rattle.std.proofs.Common.{◌≡◌, ℕ, zero, suc, ◌+◌, ◌<◌, ◌≤◌, min, ◌⊎◌, List, [], ◌∷◌, ◌++◌, Some, None, Option, append-nil, map-id, sym, refl, ap, ◌∙◌, subst, inl, inr, ⊎_elim, add-one, arith}
+use Rattle.std.proofs.Common.{◌≡◌, ℕ, zero, suc, ◌+◌, ◌<◌, ◌≤◌, min, ◌⊎◌, [], ◌∷◌, ◌++◌, Some, None, Option, fold, map-id, sym, refl, ap, ◌∙◌, subst, inl, inr, ⊎_elim, add-one, arith}
 use Rattle.std.proofs.lemmas.Bool.{cases_lt, cases_order}
-use Rattle.std.specs.List.{range_with_len, filter_map, reduce, cons_option}
-use Rattle.std.proofs.lemmas.List.Elements.{filter_map-append}
+use Rattle.std.specs.List.{range_with_len}
 use Rattle.std.proofs.lemmas.List.FromFn.{map-range_with_len_more}
 use Rattle.std.proofs.lemmas.List.Sums.{fold-append}
 use Rattle.firsts.specs.Least.{lower, least_below, LowestAt, Lowest}
@@ -80,25 +79,15 @@ unfolding least_below
 lowest_is f zero = λ k l. absurd (omega arith)
 lowest_is f (suc n) = step f n (least_below f n) (f n) refl (lowest_is f n)
 
-reduced : (xs : List ℕ) (o : Option ℕ) → reduce min (xs ++ cons_option o []) ≡ lower (reduce min xs) o
-reduced [] None = refl
-reduced [] (Some b) = refl
-reduced (x ∷ xs) None = ap (reduce min) (append-nil (x ∷ xs))
-reduced (x ∷ xs) (Some b) = ap Some (fold-append min x xs (b ∷ []))
-
-one_answer : (f : ℕ → Option ℕ) (n : ℕ) → filter_map f (n ∷ []) ≡ cons_option (f n) []
-one_answer f n = refl
-
 one_more : (n : ℕ) → range_with_len 0 (suc n) ≡ range_with_len 0 n ++ n ∷ []
 one_more n =
     ap (range_with_len 0) (sym (add-one n)) ∙ sym (map-id (range_with_len 0 (n + 1))) ∙ map-range_with_len_more (λ k. k) 0 n n (omega arith) ∙ ap (λ xs. xs ++ n ∷ []) (map-id (range_with_len 0 n))
 
--- the least of the answers at the places below n is the lowest
-pub least_listed : (f : ℕ → Option ℕ) (n : ℕ) → reduce min (filter_map f (range_with_len 0 n)) ≡ least_below f n
+-- the lower of the answers, taken one after another at the places below n, is the lowest
+pub least_folded : (f : ℕ → Option ℕ) (n : ℕ) → fold (λ o i. lower o (f i)) None (range_with_len 0 n) ≡ least_below f n
 unfolding least_below
-least_listed f zero = refl
-least_listed f (suc n) =
-    ap (λ xs. reduce min (filter_map f xs)) (one_more n)
-    ∙ ap (reduce min) (filter_map-append f (range_with_len 0 n) (n ∷ []))
-    ∙ reduced (filter_map f (range_with_len 0 n)) (f n)
-    ∙ ap (λ r. lower r (f n)) (least_listed f n)
+least_folded f zero = refl
+least_folded f (suc n) =
+    ap (fold (λ o i. lower o (f i)) None) (one_more n)
+    ∙ fold-append (λ o i. lower o (f i)) None (range_with_len 0 n) (n ∷ [])
+    ∙ ap (λ r. lower r (f n)) (least_folded f n)

@@ -1,5 +1,5 @@
 -- Claims about every number, some number and the first number below a bound.
-use Rattle.std.specs.Prelude.{◌≡◌, ℕ, ◌<◌, Bool, not, find, Some, None, Option, MatchOption}
+use Rattle.std.specs.Prelude.{ℕ, ◌<◌, Bool, not, find, Some, None, Option, MatchOption}
 use Rattle.std.specs.List.{list_all, list_any, range_with_len}
 use Rattle.firsts.specs.Search.{first_below}
 
@@ -44,7 +44,3 @@ pub record PairBreaks (P : ℕ → ℕ → Type 0) (n m : ℕ) (q : ℕ × ℕ) 
 -- r is the first pair that does not keep P: none where all do
 abbrev pub FirstPair : (ℕ → ℕ → Type 0) → ℕ → ℕ → Option (ℕ × ℕ) → Type 0
 FirstPair P n m r = MatchOption r ((i j : ℕ) → i < n → j < m → P i j) (PairBreaks P n m)
-
--- what a call answers of each number below n is what p says
-abbrev pub Tells : {X : Type 0} → (ℕ → X → Type 0) → ℕ → (ℕ → X) → Type 0
-Tells {X} answers n p = (i : ℕ) (x : X) → answers i x → x ≡ p i

@@ -3,4 +3,4 @@
 
 mod searches;
 
-pub use searches::{first_breach, least};
+pub use searches::{Claim, Probe, first_breach, least};

@@ -11,7 +11,7 @@ abbrev pub then : {A B : Type 0} → Option A → (A → Option B) → Option B
 then o f = option_and_then f o
 
 -- one after another
-abbrev pub flat : List (List ℕ) → List ℕ
+abbrev pub flat : {X : Type 0} → List (List X) → List X
 flat qs = flat_map (λ q. q) qs
 
 abbrev pub whole : List ℕ → List ℕ → List (List ℕ) → Option (List ℕ)

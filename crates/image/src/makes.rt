@@ -3,7 +3,6 @@ ghost use Rattle.std.specs.Prelude.{◌≡◌, length};
 ghost use Rattle.image.specs.Laws.{MadeAgain, MadeFrom};
 ghost use Rattle.image.specs.Tracks.{Answered, track_of};
 ghost use Rattle.motor.specs.Kept.{Kept};
-ghost use Rattle.octets.specs.Reads.{train_of};
 ghost use Rattle.station.specs.Station.{station};
 ghost use Rattle.track.specs.Meaning.{laid};
 
@@ -12,10 +11,10 @@ use crate::unmade::Unmade;
 use acceptance::Accepted;
 use lookups::{joint_count, point_count, signal_count};
 use motor::{MOST_POINTS, Motor};
-use octets::{Numbers, aspect_of, each, point_of};
+use octets::{Numbers, PointRead, SignalRead, each};
 use station::Tables;
 use std::alloc::Global;
-use track::{Refusal, Train};
+use track::Refusal;
 
 // Octets that mean no track are refused with 40.
 const MALFORMED: Unmade = Unmade::Refused(Refusal::Mismatch);
@@ -39,13 +38,9 @@ fn read(heap: Global, tables: &Tables, octets: &[u8]) -> Result<Motor, Unmade>
         return Err(MALFORMED);
     }
     let parts = Parts::of(octets, points, signal_count(tables)).ok_or(MALFORMED)?;
-    let runs = each(heap, parts.points, point_of)?.ok_or(MALFORMED)?;
-    let aspects = each(heap, parts.signals, aspect_of)?.ok_or(MALFORMED)?;
-    let n = numbers(tables);
-    let train_of = |q: [u8; 4]| -> Option<Train>
-        ensures { result ≡ train_of n.segments n.joints q }
-    { n.train_of(q) };
-    let trains = each(heap, parts.trains, train_of)?.ok_or(MALFORMED)?;
+    let runs = each(heap, &PointRead, parts.points)?.ok_or(MALFORMED)?;
+    let aspects = each(heap, &SignalRead, parts.signals)?.ok_or(MALFORMED)?;
+    let trains = each(heap, &numbers(tables), parts.trains)?.ok_or(MALFORMED)?;
     Motor::of_parts(runs, aspects, trains).ok_or(MALFORMED)
 }
 

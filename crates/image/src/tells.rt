@@ -7,7 +7,7 @@ ghost use Rattle.octets.specs.Each.{Told};
 ghost use Rattle.octets.specs.Writes.{aspect_octet};
 
 use motor::Motor;
-use octets::{aspect_octet, each, head, point_octet, rest_of, train_octets};
+use octets::{PointWritten, TrainWritten, aspect_octet, each, head, rest_of};
 use std::alloc::{AllocError, Global};
 use track::Aspect;
 
@@ -42,11 +42,11 @@ fn signal_octets(heap: Global, aspects: &[Aspect]) -> Result<Vec<u8>, AllocError
 fn written(heap: Global, track: &Motor) -> Result<Option<Vec<u8>>, AllocError>
     ensures { IfOk result (λ o. Told o (image (kept track.now))) }
 {
-    let Some(points) = each(heap, track.runs(), point_octet)? else {
+    let Some(points) = each(heap, &PointWritten, track.runs())? else {
         return Ok(None);
     };
     let signals = signal_octets(heap, track.aspects())?;
-    let Some(trains) = each(heap, track.trains(), train_octets)? else {
+    let Some(trains) = each(heap, &TrainWritten, track.trains())? else {
         return Ok(None);
     };
     whole(

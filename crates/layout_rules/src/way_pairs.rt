@@ -6,7 +6,7 @@ ghost use Rattle.lookups.specs.Shapes.{shape_entry};
 ghost use Rattle.layout_rules.specs.WayPairs.{same_joints, share_joint, points_alike, ways_apart, pair_apart, pair_of, breach_13, Breach13};
 
 use crate::settings::within;
-use firsts::first_breach;
+use firsts::{Claim, first_breach};
 use lookups::{Shape, shape, way_count};
 use station::Tables;
 
@@ -50,11 +50,26 @@ fn pair_apart(tables: &Tables, i: usize, j: usize) -> bool
     i >= j || ways_apart(shape(tables, i), shape(tables, j))
 }
 
+// That a way can be told apart from the one named first.
+#[derive(Clone, Copy)]
+struct Partners<'a> {
+    tables: &'a Tables,
+    first: usize,
+}
+
+impl<'a> Claim<usize> for Partners<'a> {
+    ghost holds = { λ s j. pair_apart (station s.tables.now) (s.first, j) };
+
+    fn holds(&self, j: usize) -> bool {
+        pair_apart(self.tables, self.first, j)
+    }
+}
+
 // The first way that cannot be told apart from the one named first.
 fn partner(tables: &Tables, i: usize) -> Option<usize>
     ensures { result ≡ first_failing (λ j. pair_apart (station tables.now) (i, j)) (length (station tables.now).ways) }
 {
-    first_breach(way_count(tables), |j| pair_apart(tables, i, j))
+    first_breach(&Partners { tables, first: i }, way_count(tables))
 }
 
 // A way, and the first one that cannot be told apart from it.

@@ -6,7 +6,7 @@ ghost use Rattle.station.specs.Station.{station};
 ghost use Rattle.layout_rules.specs.Ways.{at_home, joints_fit, all_named, points_fit, sound_way, breach_12, Breach12};
 
 use crate::settings::{names, once_each};
-use firsts::first_breach;
+use firsts::{Claim, first_breach};
 use lookups::{Shape, home, point_count, shape, touches, way_count};
 use station::Tables;
 
@@ -57,11 +57,25 @@ fn is_sound(tables: &Tables, w: usize) -> bool
     joints_fit(tables, way) && points_fit(tables, way)
 }
 
+// That a way fits its segment.
+#[derive(Clone, Copy)]
+struct Ways<'a> {
+    tables: &'a Tables,
+}
+
+impl<'a> Claim<usize> for Ways<'a> {
+    ghost holds = { λ s w. sound_way (station s.tables.now) w };
+
+    fn holds(&self, w: usize) -> bool {
+        is_sound(self.tables, w)
+    }
+}
+
 // The first way that does not fit its segment.
 #[tactic(auto, using(crate::proofs::Told::first_12))]
 pub fn rule_12(tables: &Tables) -> Option<usize>
     ensures value { result ≡ breach_12 (station tables.now) }
     ensures first { Breach12 (station tables.now) result }
 {
-    first_breach(way_count(tables), |w| is_sound(tables, w))
+    first_breach(&Ways { tables }, way_count(tables))
 }

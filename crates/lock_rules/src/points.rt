@@ -5,7 +5,7 @@ ghost use Rattle.station.specs.Station.{station};
 ghost use Rattle.station.specs.Subroutes.{subroutes};
 ghost use Rattle.lock_rules.specs.Points.{rows_guard, kept_26, breach_of, breach_26, Breach26};
 
-use firsts::first_breach;
+use firsts::{Claim, first_breach};
 use lookups::{home, normal_tests, point_count, reverse_tests, segment_of, subroute_count};
 use paths::{point_guards, used};
 use station::Tables;
@@ -25,11 +25,26 @@ fn kept(tables: &Tables, p: usize, u: usize) -> bool
     segment_of(tables, u) != home(tables, p) || !used(tables, u) || rows_guard(tables, p, u)
 }
 
+// That no row of the point leaves a subroute open.
+#[derive(Clone, Copy)]
+struct Rows<'a> {
+    tables: &'a Tables,
+    point: usize,
+}
+
+impl<'a> Claim<usize> for Rows<'a> {
+    ghost holds = { λ s u. kept_26 (station s.tables.now) (s.point, u) };
+
+    fn holds(&self, u: usize) -> bool {
+        kept(self.tables, self.point, u)
+    }
+}
+
 // The first subroute that a row of the point leaves open.
 fn first_open(tables: &Tables, p: usize) -> Option<usize>
     ensures { result ≡ first_failing (λ u. kept_26 (station tables.now) (p, u)) (subroutes (station tables.now)) }
 {
-    first_breach(subroute_count(tables), |u| kept(tables, p, u))
+    first_breach(&Rows { tables, point: p }, subroute_count(tables))
 }
 
 // A point, and the first subroute that a row of it leaves open.

@@ -1,11 +1,14 @@
 // Rule 25: the release row of a used subroute tests its segment, the routes that it starts, and the subroutes just before it.
 ghost use Rattle.std.specs.Prelude.{◌≡◌, ◌==◌, cond, length, true};
 ghost use Rattle.firsts.specs.Claims.{all_below};
+ghost use Rattle.firsts.specs.Lists.{any};
+ghost use Rattle.station.specs.Alike.{same_release};
 ghost use Rattle.station.specs.Paths.{on_path, path_length};
 ghost use Rattle.station.specs.Station.{station};
+ghost use Rattle.station.specs.declared.tests.ReleaseTest.TheVariants.{Unset};
 ghost use Rattle.lock_rules.specs.Release.{asks_before, asks_along, sound_release, kept_25, breach_25, Breach25};
 
-use firsts::first_breach;
+use firsts::{Claim, first_breach};
 use lookups::{release_tests, route_count, segment_of, subroute_count};
 use paths::{on_path, path_length, used, uses};
 use station::{ReleaseTest, Tables};
@@ -19,6 +22,13 @@ struct Release<'a> {
 }
 
 impl<'a> Release<'a> {
+    // Whether the tests ask for the route to be neither set nor active.
+    fn asks_unset(&self, route: usize) -> bool
+        ensures { result ≡ any (same_release (Unset route)) self.now.tests.now }
+    {
+        self.tests.contains(&ReleaseTest::Unset(route))
+    }
+
     // Whether the tests ask for what stands before the k-th place of the route's path: at the first, the route itself.
     fn asks_before(&self, route: usize, k: usize) -> bool
         ensures { result ≡ asks_before (station self.now.tables.now) self.now.tests.now route k }
@@ -27,7 +37,7 @@ impl<'a> Release<'a> {
             self.tests
                 .contains(&ReleaseTest::Free(on_path(self.tables, route, k - 1)))
         } else {
-            self.tests.contains(&ReleaseTest::Unset(route))
+            self.asks_unset(route)
         }
     }
 
@@ -76,11 +86,25 @@ fn kept(tables: &Tables, u: usize) -> bool
     !used(tables, u) || sound_release(tables, u)
 }
 
+// That a subroute is used by no route or has a sound row.
+#[derive(Clone, Copy)]
+struct Releases<'a> {
+    tables: &'a Tables,
+}
+
+impl<'a> Claim<usize> for Releases<'a> {
+    ghost holds = { λ s u. kept_25 (station s.tables.now) u };
+
+    fn holds(&self, u: usize) -> bool {
+        kept(self.tables, u)
+    }
+}
+
 // The first used subroute that may be released too early.
 #[tactic(auto, using(crate::proofs::Told::first_25))]
 pub fn rule_25(tables: &Tables) -> Option<usize>
     ensures value { result ≡ breach_25 (station tables.now) }
     ensures first { Breach25 (station tables.now) result }
 {
-    first_breach(subroute_count(tables), |u| kept(tables, u))
+    first_breach(&Releases { tables }, subroute_count(tables))
 }

@@ -1,5 +1,5 @@
 -- What every element of a list is read or written as, where each of them can be.
-use Rattle.std.specs.Prelude.{◌≡◌, List, [], ◌∷◌, Some, None, vec_items, Contains, Option, Vec, MatchOption}
+use Rattle.std.specs.Prelude.{◌≡◌, List, [], ◌∷◌, Some, None, vec_items, Option, Vec, MatchOption}
 use Rattle.std.specs.declared.alloc.Global.{Global}
 
 abbrev pub both : {Y : Type 0} → Option Y → Option (List Y) → Option (List Y)
@@ -10,10 +10,6 @@ both (Some y) (Some ys) = Some (y ∷ ys)
 unfoldable pub each : {X Y : Type 0} → (X → Option Y) → List X → Option (List Y)
 each f [] = Some []
 each f (x ∷ xs) = both (f x) (each f xs)
-
--- what comes of each element of the list is what f gives
-abbrev pub Gives : {X Y : Type 0} → (X → Option Y → Type 0) → List X → (X → Option Y) → Type 0
-Gives {X} {Y} comes xs f = (x : X) (o : Option Y) → Contains xs x → comes x o → o ≡ f x
 
 -- the answer is the list, or none where there is none
 abbrev pub Told : {Y : Type 0} → Option (Vec Y Global) → Option (List Y) → Type 0

@@ -1,23 +1,29 @@
-// Every element of a list, written or read.
-ghost use Rattle.std.specs.Prelude.{IfOk, Option as Maybe};
-ghost use Rattle.octets.specs.Each.{Gives, Told, each};
+// Every element of a list, written or read, over a trait and no closure: a function that calls one has a precondition.
+ghost use Rattle.std.specs.Prelude.{◌≡◌, IfOk, Option as Maybe};
+ghost use Rattle.octets.specs.Each.{Told, each};
 
 use std::alloc::{AllocError, Global};
 
+// What a thing is written or read as, where it can be.
+pub trait Code<X, Y> {
+    ghost code: { Self → X → Maybe Y };
+
+    fn code(&self, x: X) -> Option<Y>
+        ensures { result ≡ code self.now x };
+}
+
 // What all elements are written or read as, in their order, or None where one of them cannot be.
-// It says so of any f that the code computes at each element.
-pub fn each<X: Copy, Y: Drop, F: Fn(X) -> Option<Y>>(
+pub fn each<X: Copy, Y: Drop, C: Code<X, Y>>(
     heap: Global,
+    code: &C,
     xs: &[X],
-    code: F,
 ) -> Result<Option<Vec<Y>>, AllocError>
-    requires { F.IsAlwaysCallable code }
-    ensures { (f : X → Maybe Y) → Gives (F.post code) xs.now f → IfOk result (λ o. Told o (each f xs.now)) }
+    ensures { IfOk result (λ o. Told o (each (C.Code.code code.now) xs.now)) }
 {
     let mut ys = Vec::new(heap);
     // A loop, since of `collect` into an Option nothing is promised of when it fails.
     for x in xs {
-        let Some(y) = code(*x) else {
+        let Some(y) = code.code(*x) else {
             return Ok(None);
         };
         ys.push(y)?;

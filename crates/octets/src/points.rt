@@ -3,6 +3,7 @@ ghost use Rattle.std.specs.Prelude.{◌≡◌};
 ghost use Rattle.octets.specs.Reads.{run_of};
 ghost use Rattle.octets.specs.Writes.{run_octet};
 
+use crate::lists::Code;
 use motor::Run;
 use station::Position;
 
@@ -39,4 +40,28 @@ pub fn point_of(octet: u8) -> Option<Run>
         _ => return None,
     };
     Some(Run { target, left })
+}
+
+// Points as octets.
+#[derive(Clone, Copy)]
+pub struct PointWritten;
+
+impl Code<Run, u8> for PointWritten {
+    ghost code = { λ _ p. run_octet p };
+
+    fn code(&self, p: Run) -> Option<u8> {
+        point_octet(p)
+    }
+}
+
+// Octets as points.
+#[derive(Clone, Copy)]
+pub struct PointRead;
+
+impl Code<u8, Run> for PointRead {
+    ghost code = { λ _ b. run_of b };
+
+    fn code(&self, octet: u8) -> Option<Run> {
+        point_of(octet)
+    }
 }

@@ -3,6 +3,7 @@ ghost use Rattle.std.specs.Prelude.{◌≡◌};
 ghost use Rattle.octets.specs.Reads.{declared, train_of};
 ghost use Rattle.octets.specs.Writes.{four, train_octets};
 
+use crate::lists::Code;
 use track::{Place, Train};
 
 const ABSENT: u8 = 0;
@@ -80,5 +81,25 @@ impl Numbers {
             rear: rear.map(usize::from),
             derailed,
         }))
+    }
+}
+
+// Trains as octets.
+#[derive(Clone, Copy)]
+pub struct TrainWritten;
+
+impl Code<Train, [u8; 4]> for TrainWritten {
+    ghost code = { λ _ t. train_octets t };
+
+    fn code(&self, train: Train) -> Option<[u8; 4]> {
+        train_octets(train)
+    }
+}
+
+impl Code<[u8; 4], Train> for Numbers {
+    ghost code = { λ s q. train_of s.segments s.joints q };
+
+    fn code(&self, octets: [u8; 4]) -> Option<Train> {
+        self.train_of(octets)
     }
 }

@@ -1,7 +1,10 @@
 // When a zone covers a subroute, and which rows keep a subroute free.
 ghost use Rattle.std.specs.Prelude.{◌≡◌};
+ghost use Rattle.firsts.specs.Lists.{any};
+ghost use Rattle.station.specs.Alike.{same_release};
 ghost use Rattle.station.specs.Station.{station};
 ghost use Rattle.station.specs.Covers.{covers, guards, users_lock, request_guards, point_guards};
+ghost use Rattle.station.specs.declared.tests.ReleaseTest.TheVariants.{Free};
 
 use crate::users::{locks, uses};
 use lookups::{route_count, zone_tests};
@@ -14,12 +17,20 @@ fn users_lock(tables: &Tables, zone: usize, subroute: usize) -> bool
     (0..route_count(tables)).all(|r| !uses(tables, r, subroute) || locks(tables, r, zone))
 }
 
+// Whether the tests ask for the subroute free. By a pattern and no `contains`, whose test of equality by reference costs more.
+fn tests_free(tests: &[ReleaseTest], subroute: usize) -> bool
+    ensures { result ≡ any (same_release (Free subroute)) tests.now }
+{
+    tests
+        .iter()
+        .any(|t| matches!(*t, ReleaseTest::Free(u) if u == subroute))
+}
+
 // Whether the zone's row tests the subroute free, and every route that uses it locks the zone.
 pub fn covers(tables: &Tables, zone: usize, subroute: usize) -> bool
     ensures { result ≡ covers (station tables.now) zone subroute }
 {
-    zone_tests(tables, zone).contains(&ReleaseTest::Free(subroute))
-        && users_lock(tables, zone, subroute)
+    tests_free(zone_tests(tables, zone), subroute) && users_lock(tables, zone, subroute)
 }
 
 // Whether the lock is the subroute's own, or a zone that covers it.

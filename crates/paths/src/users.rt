@@ -10,11 +10,13 @@ ghost use Rattle.station.specs.declared.tests.Action.TheVariants.{Take};
 use lookups::{actions, route_count};
 use station::{Action, Lock, Tables};
 
-// Whether the route's request takes the lock.
+// Whether the route's request takes the lock. By a pattern, as in `tests_free`.
 fn takes(tables: &Tables, r: usize, lock: Lock) -> bool
     ensures { result ≡ any (same_action (Take lock)) (route_at (station tables.now) r).actions }
 {
-    actions(tables, r).contains(&Action::Take(lock))
+    actions(tables, r)
+        .iter()
+        .any(|a| matches!(*a, Action::Take(l) if l == lock))
 }
 
 // Whether the route's path has the subroute.

@@ -6,7 +6,7 @@ ghost use Rattle.station.specs.Alike.{same_activation};
 ghost use Rattle.station.specs.declared.tests.ActivationTest.TheVariants.{Lies};
 ghost use Rattle.route_rules.specs.Activation.{asks, sound_activation, breach_24, Breach24};
 
-use firsts::first_breach;
+use firsts::{Claim, first_breach};
 use lookups::{activation_tests, route_count, segment_of, settings_of};
 use paths::{on_path, path_length};
 use station::{ActivationTest, Setting, Tables};
@@ -34,11 +34,25 @@ fn is_sound(tables: &Tables, route: usize) -> bool
     (0..path_length(tables, route)).all(|k| asks(tables, tests, on_path(tables, route, k)))
 }
 
+// That the activation of a route asks for every subroute of its path.
+#[derive(Clone, Copy)]
+struct Activations<'a> {
+    tables: &'a Tables,
+}
+
+impl<'a> Claim<usize> for Activations<'a> {
+    ghost holds = { λ s route. sound_activation (station s.tables.now) route };
+
+    fn holds(&self, route: usize) -> bool {
+        is_sound(self.tables, route)
+    }
+}
+
 // The first route whose activation leaves a point or a segment of its path untested.
 #[tactic(auto, using(crate::proofs::Told::first_24))]
 pub fn rule_24(tables: &Tables) -> Option<usize>
     ensures value { result ≡ breach_24 (station tables.now) }
     ensures first { Breach24 (station tables.now) result }
 {
-    first_breach(route_count(tables), |route| is_sound(tables, route))
+    first_breach(&Activations { tables }, route_count(tables))
 }

@@ -5,7 +5,7 @@ ghost use Rattle.station.specs.Station.{station};
 ghost use Rattle.station.specs.Paths.{path_length};
 ghost use Rattle.route_rules.specs.Path.{joined_at, fresh_at, sound_at, sound_path, breach_21, Breach21};
 
-use firsts::first_breach;
+use firsts::{Claim, first_breach};
 use lookups::{end, route_count, segment_of, start, subroute_count};
 use paths::{on_path, path_length};
 use station::Tables;
@@ -49,11 +49,25 @@ fn is_sound(tables: &Tables, route: usize) -> bool
     0 < path_length(tables, route) && sound_everywhere(tables, route)
 }
 
+// That the path of a route is sound.
+#[derive(Clone, Copy)]
+struct Paths<'a> {
+    tables: &'a Tables,
+}
+
+impl<'a> Claim<usize> for Paths<'a> {
+    ghost holds = { λ s route. sound_path (station s.tables.now) route };
+
+    fn holds(&self, route: usize) -> bool {
+        is_sound(self.tables, route)
+    }
+}
+
 // The first route whose path is empty or broken, or comes into a segment twice.
 #[tactic(auto, using(crate::proofs::Told::first_21))]
 pub fn rule_21(tables: &Tables) -> Option<usize>
     ensures value { result ≡ breach_21 (station tables.now) }
     ensures first { Breach21 (station tables.now) result }
 {
-    first_breach(route_count(tables), |route| is_sound(tables, route))
+    first_breach(&Paths { tables }, route_count(tables))
 }

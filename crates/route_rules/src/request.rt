@@ -4,7 +4,7 @@ ghost use Rattle.station.specs.Station.{station};
 ghost use Rattle.route_rules.specs.Request.{path_driven, sound_request, breach_23, Breach23};
 
 use crate::row::{drives_all, row_fits};
-use firsts::first_breach;
+use firsts::{Claim, first_breach};
 use lookups::{actions, request_tests, route_count, settings_of};
 use paths::{on_path, path_length};
 use station::Tables;
@@ -27,11 +27,25 @@ fn is_sound(tables: &Tables, route: usize) -> bool
         && path_driven(tables, route)
 }
 
+// That the request of a route keeps to itself and its points.
+#[derive(Clone, Copy)]
+struct Requests<'a> {
+    tables: &'a Tables,
+}
+
+impl<'a> Claim<usize> for Requests<'a> {
+    ghost holds = { λ s route. sound_request (station s.tables.now) route };
+
+    fn holds(&self, route: usize) -> bool {
+        is_sound(self.tables, route)
+    }
+}
+
 // The first route whose request does not keep to itself and its points.
 #[tactic(auto, using(crate::proofs::Told::first_23))]
 pub fn rule_23(tables: &Tables) -> Option<usize>
     ensures value { result ≡ breach_23 (station tables.now) }
     ensures first { Breach23 (station tables.now) result }
 {
-    first_breach(route_count(tables), |route| is_sound(tables, route))
+    first_breach(&Requests { tables }, route_count(tables))
 }

@@ -5,7 +5,7 @@ ghost use Rattle.station.specs.Station.{station};
 ghost use Rattle.station.specs.Paths.{path_length};
 ghost use Rattle.route_rules.specs.Signals.{into, leads_on, last_of, unsignalled_at, sound_signals, breach_22, Breach22};
 
-use firsts::first_breach;
+use firsts::{Claim, first_breach};
 use lookups::{across, end, route_count, segment_of, signalled, start};
 use paths::{on_path, path_length};
 use station::{Beyond, Tables};
@@ -60,11 +60,25 @@ fn is_sound(tables: &Tables, route: usize) -> bool
         && leads_on(tables, last_of(tables, route))
 }
 
+// That a route is signalled as its path runs.
+#[derive(Clone, Copy)]
+struct Signals<'a> {
+    tables: &'a Tables,
+}
+
+impl<'a> Claim<usize> for Signals<'a> {
+    ghost holds = { λ s route. sound_signals (station s.tables.now) route };
+
+    fn holds(&self, route: usize) -> bool {
+        is_sound(self.tables, route)
+    }
+}
+
 // The first route without a signal at its start, with one along its path, or without one at its end.
 #[tactic(auto, using(crate::proofs::Told::first_22))]
 pub fn rule_22(tables: &Tables) -> Option<usize>
     ensures value { result ≡ breach_22 (station tables.now) }
     ensures first { Breach22 (station tables.now) result }
 {
-    first_breach(route_count(tables), |route| is_sound(tables, route))
+    first_breach(&Signals { tables }, route_count(tables))
 }

@@ -109,11 +109,23 @@ impl<'a> Row<'a> {
         self.kind() == kind
     }
 
+    // Whether the row is of the kind and has this key, which is lent: one passed by value is copied for each row.
+    fn has_key(&self, kind: Kind, key: &Key) -> bool
+        ensures { result ≡ named kind key.now.first.now key.now.second.now (placed_row self.now) }
+    {
+        if !self.is_of(kind) {
+            return false;
+        }
+        // Name by name, since `==` of two keys has both of them written to memory first.
+        let Key { first, second } = self.key();
+        first == key.first && second == key.second
+    }
+
     // Whether the row is of the kind and has this key.
     pub fn is_named(&self, kind: Kind, key: Key) -> bool
         ensures { result ≡ named kind key.entry.first.now key.entry.second.now (placed_row self.now) }
     {
-        self.is_of(kind) && self.key() == key
+        self.has_key(kind, &key)
     }
 
     // Whether the row is a point's with this home segment.
@@ -146,11 +158,19 @@ pub fn full(rows: &[Row], kind: Kind, most: usize) -> bool
     rows.iter().filter(|r| r.is_of(kind)).count() >= most
 }
 
+// How many rows of the kind have this key.
+fn how_many(rows: &[Row], kind: Kind, key: &Key) -> usize
+    ensures { result ≡ count_by (λ r. named kind key.now.first.now key.now.second.now (placed_row r)) rows.now }
+{
+    rows.iter().filter(|r| r.has_key(kind, key)).count()
+}
+
 // Whether there is a row of the kind with this key.
+#[tactic(auto, using(firsts::proofs::Elements::any_counted, firsts::proofs::Elements::any_map))]
 pub fn known(rows: &[Row], kind: Kind, key: Key) -> bool
     ensures { result ≡ known (map placed_row rows.now) kind key.entry.first.now key.entry.second.now }
 {
-    rows.iter().any(|r| r.is_named(kind, key))
+    how_many(rows, kind, &key) > 0
 }
 
 // Whether the segment has as many points as it may have.

@@ -9,7 +9,7 @@ ghost use Rattle.track.specs.Trains.{holds};
 use crate::standing::Standing;
 use lookups::{point_count, signal_count};
 use station::Tables;
-use track::Refusal;
+use track::{Refusal, holds};
 
 // Trains are numbered 0 to 15.
 pub const TRAINS: usize = 16;
@@ -77,7 +77,7 @@ pub fn clear_refusal<S: Standing>(tables: &Tables, track: &S, segment: usize) ->
 fn train_holds<S: Standing>(track: &S, train: usize, segment: usize) -> bool
     ensures { result ≡ holds (train_at (S.Standing.told track.now) train) segment }
 {
-    track.train_at(train).is_some_and(|p| p.holds(segment))
+    holds(track.train_at(train), segment)
 }
 
 // Whether no train holds the segment.

@@ -41,8 +41,8 @@ fn out_by<S: Standing>(
     ensures { result ≡ out_by (station tables.now) (S.Standing.told track.now) segment joint n }
 {
     let w = shape(tables, n);
-    let other_end = if w.from == joint { w.to } else { w.from };
-    way_fits(track, segment, joint, w).then_some(other_end)
+    // The other end is looked for only where the way fits.
+    way_fits(track, segment, joint, w).then(|| if w.from == joint { w.to } else { w.from })
 }
 
 // The joint over which a train leaves its segment, by the way that fits.

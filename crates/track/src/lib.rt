@@ -8,5 +8,5 @@ mod trackside;
 
 pub use laws::one_way_fits;
 pub use refusals::Refusal;
-pub use states::{Aspect, Place, PointState, Step, Train};
+pub use states::{Aspect, Place, PointState, Step, Train, holds};
 pub use trackside::Trackside;

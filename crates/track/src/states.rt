@@ -48,3 +48,10 @@ impl Place {
         self.front == Some(segment) || self.rear == Some(segment)
     }
 }
+
+// Whether the train holds the segment; one that is absent holds none.
+pub fn holds(train: Train, segment: usize) -> bool
+    ensures { result ≡ holds train segment }
+{
+    train.is_some_and(|p| p.holds(segment))
+}

@@ -46,9 +46,7 @@ impl<P: Motion> Trackside for Wayside<P> {
         ensures settles { result ≡ answer (settle_refusal (laid station.now) (of_wayside P.Motion.seen self.old) point) (P.Motion.seen (P.Motion.going_on (slice_index_or (runs self.old) point (P.Motion.resting Normal)))).settled }
     {
         settle_refusal(station.tables(), self, point)?;
-        let run = self.run_at(point).go_on();
-        self.put_run(point, run);
-        Ok(run.state().settled)
+        Ok(self.run_on(point))
     }
 
     fn show(&mut self, station: &Accepted<'_>, signal: usize, aspect: Aspect) -> Result<(), Refusal>

@@ -1,14 +1,10 @@
-use Rattle.std.proofs.Common.{rules, ◌≡◌, ℕ, ◌∙◌, sym, refl, Option, Some, None}
-use Rattle.std.specs.Option.{option_map}
+use Rattle.std.proofs.Common.{rules, ◌∙◌}
 use Rattle.std.proofs.lemmas.Iterator.{YieldsList-from_slice}
 use Rattle.std.proofs.lemmas.Iterator.Consumers.{nth_from_yields_List, YieldsList-from_filter_map}
+use Rattle.firsts.proofs.Found.{itself}
 use Rattle.station.specs.Paths.{taken}
 use borrow.Author.Tests.{tests}
 use Rattle.paths.proofs.along.subroute_at.Goals as goal
-
-itself : (o : Option ℕ) → o ≡ option_map (λ r. r) o
-itself None = refl
-itself (Some x) = refl
 
 pub returns : goal.returns
 returns c =
