@@ -85,5 +85,9 @@ fn data_head<'a>(w: Word<'a>) -> Option<Head<'a>>
 pub fn head_of<'a>(w: Word<'a>) -> Option<Head<'a>>
     ensures { option_map headed result ≡ head (spelled w.entry) }
 {
-    layout_head(w.octets).or(data_head(w))
+    // Not by `or`, so that the heads of the data are tried only where no head of the layout fits.
+    match layout_head(w.octets) {
+        Some(head) => Some(head),
+        None => data_head(w),
+    }
 }

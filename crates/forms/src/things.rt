@@ -63,5 +63,9 @@ fn lock_of<'a>(w: Word<'a>) -> Option<Thing<'a>>
 pub fn thing_of<'a>(w: Word<'a>) -> Option<Thing<'a>>
     ensures { option_map placed result ≡ thing_of (spelled w.entry) }
 {
-    lettered(w).or(lock_of(w))
+    // Not by `or`, so that locks are tried only where no other thing fits.
+    match lettered(w) {
+        Some(thing) => Some(thing),
+        None => lock_of(w),
+    }
 }
